@@ -1,0 +1,15 @@
+use Prim.Native.Nat.{ℕ, _+_, _-_}
+use mathlib.Core.Path.{_≡_, ap, sym, _∙_}
+use mathlib.Core.List.{List}
+use native.Mathlib.Omega.{arith}
+use lib.ListN.{length, take, drop}
+use Rattle.bytes.specs.Fields.{numberOf}
+use Rattle.bytes.proofs.Fielded.{number2}
+use Rattle.bytes.proofs.get_u16.Needs as need
+
+pub returns : need.returns
+returns c =
+    let w : List ℕ = c .copy-from-slice .last .self in
+    let n : (c .args .at + 2) - c .args .at ≡ 2 = omega arith in
+    let is : w ≡ take 2 (drop (c .args .at) (c .args .b .now)) = c .copy-from-slice .ensures .after ∙ rw n in
+    c .from-be-bytes .ensures ∙ sym (number2 w (omega arith)) ∙ ap numberOf is
