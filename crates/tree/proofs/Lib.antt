@@ -1,0 +1,12 @@
+pub mod Members
+pub mod Choice
+pub mod Places
+pub mod Exact
+pub mod Fewest
+pub mod Replacement
+pub mod Cuts
+pub mod Flanks
+pub mod Bounds
+pub mod Descent
+pub mod Computed
+pub mod Keys
