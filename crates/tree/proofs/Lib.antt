@@ -10,3 +10,4 @@ pub mod Bounds
 pub mod Descent
 pub mod Computed
 pub mod Keys
+pub mod Shapes

@@ -41,6 +41,12 @@ leftOf x = nodeAt (suc (x .depth)) (x .first)
 abbrev pub rightOf : ℕ → Node → Node
 rightOf d x = nodeAt (suc (x .depth)) (x .first + widthOf d (suc (x .depth)))
 
+-- x is a node, of a tree that the code goes with, and no leaf
+pub record HasChildren (d : ℕ) (x : Node) : Type 0 where
+  pub few : d ≤ mostLevels
+  pub isNode : IsNode d x
+  pub inner : x .depth < d
+
 -- x is the left or the right child of y
 abbrev pub Child : ℕ → Node → Node → Type 0
 Child d y x = (x .depth ≡ suc (y .depth)) × ((x .first ≡ y .first) ⊎ (x .first ≡ y .first + widthOf d (x .depth)))

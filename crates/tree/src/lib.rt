@@ -1,4 +1,9 @@
 //! The key tree: its nodes, the cover of the spent numbers, and the values.
+ghost use mathlib.Core.Path.{_≡_};
+ghost use Prim.Native.Nat.{ℕ, _≤_, _<_};
+ghost use lib.Dec.{T};
+ghost use Rattle.std.specs.declared.option.Option.the-variants.{Some, None};
+ghost use Rattle.tree.specs.Nodes.{mostLevels, widthOf, IsNode, Covers, HasChildren, leftOf, rightOf, Twins};
 ghost use Rattle.tree.specs.Cover.{Characterised, InOrder, Exactly, AtMostOne, Exhausted, Least, SameSet, Few};
 ghost use Rattle.tree.specs.Puncture.{SiblingsAre, Punctured, PuncturedAt};
 ghost use Rattle.tree.specs.Values.{ValuesAre, Composed, KeyFrom, Agreed, PuncturedValues, KeysOf};
@@ -7,11 +12,85 @@ ghost use Rattle.tree.specs.Examples.{Examples};
 /// The levels below the root of the trees in use.
 pub const LEVELS: u8 = 16;
 
+/// The most levels that a tree may have here.
+pub const MOST_LEVELS: u8 = 24;
+
 /// A node: how deep below the root, and the first number that it covers.
 #[derive(Clone, Copy)]
 pub struct Node {
     pub depth: u8,
     pub first: u32,
+}
+
+// Each method takes the number of levels of the tree that the node is to stand in.
+impl Node {
+    /// How many numbers the node covers; 0 where the tree has no such depth.
+    pub fn width(&self, height: u8) -> u32
+        ensures within { λ r. ⌜ (height ≤ mostLevels → now (self .entry) .depth ≤ height → r ≡ widthOf height (now (self .entry) .depth)) ⌝ }
+        ensures without { λ r. ⌜ ((height ≤ mostLevels → now (self .entry) .depth ≤ height → ⊥) → r ≡ 0) ⌝ }
+    {
+        if height > MOST_LEVELS || self.depth > height {
+            return 0;
+        }
+        1 << (height - self.depth)
+    }
+
+    /// Whether this is a node of the tree.
+    pub fn is_node(&self, height: u8) -> bool
+        ensures only { λ r. ⌜ (T r → (height ≤ mostLevels) × IsNode height (now (self .entry))) ⌝ }
+        ensures all { λ r. ⌜ (height ≤ mostLevels → IsNode height (now (self .entry)) → T r) ⌝ }
+    {
+        if height > MOST_LEVELS || self.depth > height {
+            return false;
+        }
+        self.first % self.width(height) == 0 && self.first < 1 << height
+    }
+
+    /// Whether this is a node of the tree and covers `n`.
+    pub fn covers(&self, height: u8, n: u32) -> bool
+        ensures only { λ r. ⌜ (T r → (height ≤ mostLevels) × IsNode height (now (self .entry)) × Covers height (now (self .entry)) n) ⌝ }
+        ensures all { λ r. ⌜ (height ≤ mostLevels → IsNode height (now (self .entry)) → Covers height (now (self .entry)) n → T r) ⌝ }
+    {
+        self.is_node(height) && self.first <= n && n - self.first < self.width(height)
+    }
+
+    /// The left child, where this is a node of the tree and no leaf.
+    pub fn left(&self, height: u8) -> Option<Node>
+        ensures { λ r. ⌜ elim r [ Some x ↦ HasChildren height (now (self .entry)) × (x ≡ leftOf (now (self .entry))) | None ↦ (HasChildren height (now (self .entry)) → ⊥) ] ⌝ }
+    {
+        if self.depth >= height || !self.is_node(height) {
+            return None;
+        }
+        Some(Node {
+            depth: self.depth + 1,
+            first: self.first,
+        })
+    }
+
+    /// The right child, where this is a node of the tree and no leaf.
+    pub fn right(&self, height: u8) -> Option<Node>
+        ensures { λ r. ⌜ elim r [ Some x ↦ HasChildren height (now (self .entry)) × (x ≡ rightOf height (now (self .entry))) | None ↦ (HasChildren height (now (self .entry)) → ⊥) ] ⌝ }
+    {
+        if self.depth >= height || !self.is_node(height) {
+            return None;
+        }
+        Some(Node {
+            depth: self.depth + 1,
+            first: self.first + self.width(height) / 2,
+        })
+    }
+
+    /// Whether this and `next` are the left and the right child of one node of the tree.
+    pub fn has_sibling(&self, height: u8, next: &Node) -> bool
+        ensures only { λ r. ⌜ (T r → (height ≤ mostLevels) × Twins height (now (self .entry)) (now (next .entry))) ⌝ }
+        ensures all { λ r. ⌜ (height ≤ mostLevels → Twins height (now (self .entry)) (now (next .entry)) → T r) ⌝ }
+    {
+        if self.depth == 0 || self.depth != next.depth || !self.is_node(height) {
+            return false;
+        }
+        let width = self.width(height);
+        self.first % (2 * width) == 0 && self.first + width == next.first
+    }
 }
 
 /// The cover: its nodes, their order, what they cover, and that no fewer would do.
