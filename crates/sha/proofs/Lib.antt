@@ -1,0 +1,5 @@
+pub mod Rule
+pub mod Added
+pub mod Absorbed
+pub mod Digests
+pub mod Feeding

@@ -1,0 +1,4 @@
+pub mod Roots
+pub mod Digest
+pub mod Hasher
+pub mod Laws
