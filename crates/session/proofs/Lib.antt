@@ -1,0 +1,5 @@
+pub mod Rows
+pub mod Laid
+pub mod Trip
+pub mod Fitting
+pub mod Written

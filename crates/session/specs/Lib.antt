@@ -1,0 +1,4 @@
+pub mod Limits
+pub mod Suites
+pub mod Records
+pub mod Laws
