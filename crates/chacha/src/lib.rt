@@ -1,4 +1,4 @@
-// The block function of ChaCha20 (RFC 8439, section 2.3).
+//! The block function of ChaCha20 (RFC 8439, section 2.3).
 ghost use mathlib.Core.Path.{_≡_};
 ghost use mathlib.Core.List.{_++_, _∷_};
 ghost use Prim.Native.Nat.{ℕ, _+_, _*_, _%_, _^_, _<_, _≤_};
@@ -9,7 +9,7 @@ ghost use Rattle.chacha.specs.Laws.{BlockLaws};
 // The sixteen bytes that the start block begins with.
 const TEXT: &[u8; 16] = b"expand 32-byte k";
 
-// Fills `out` with the block of `key`, `counter` and `nonce`. The laws say of every block that it is 64 bytes.
+/// Fills `out` with the block of `key`, `counter` and `nonce`. The laws say of every block that it is 64 bytes.
 pub fn block(key: &[u8; 32], counter: u32, nonce: &[u8; 12], out: &mut [u8; 64])
     ensures is { λ _. ⌜ now (out .exit) ≡ blockOf (now (key .entry)) counter (now (nonce .entry)) ⌝ }
     ensures laws { λ _. ⌜ BlockLaws ⌝ }

@@ -8,7 +8,7 @@ use Rattle.std.specs.Joined.{joined}
 use Rattle.std.specs.shelf.Lists.{All}
 use Rattle.std.proofs.shelf.Elements.{all-append}
 use Rattle.std.proofs.shelf.Counted.{length-map-counting}
-use Rattle.sha.specs.Digest.{roundOf, roundsOf, scheduled, compressed, absorbed, startWord, startWords, padded, fourBytes, sha256}
+use Rattle.sha.specs.Digest.{roundOf, roundsOf, scheduled, compressed, absorbed, startWord, startWords, padded, fourBytes, lastValue, sha256}
 use Rattle.sha.proofs.Added.{length-added}
 
 round-long : (k w : ℕ) (s : List ℕ) → length (roundOf k w s) ≡ 8
@@ -48,12 +48,14 @@ joined-bytes : (ws : List ℕ) → All (λ b. b < 256) (joined fourBytes ws)
 joined-bytes [] = tt
 joined-bytes (w ∷ ws) = all-append (λ b. b < 256) (fourBytes w) (joined fourBytes ws) (word-bytes w) (joined-bytes ws)
 
+pub last-long : (m : List ℕ) → length (lastValue m) ≡ 8
+unfolding lastValue
+last-long m = absorbed-long startWords (padded m) (length (padded m) / 64) start-long
+
 pub digest-long : (m : List ℕ) → length (sha256 m) ≡ 32
 unfolding sha256
-digest-long m =
-    let h : List ℕ = absorbed startWords (padded m) (length (padded m) / 64) in
-    joined-long h ∙ ap (λ n. 4 * n) (absorbed-long startWords (padded m) (length (padded m) / 64) start-long)
+digest-long m = joined-long (lastValue m) ∙ ap (λ n. 4 * n) (last-long m)
 
 pub digest-bytes : (m : List ℕ) → All (λ b. b < 256) (sha256 m)
 unfolding sha256
-digest-bytes m = joined-bytes (absorbed startWords (padded m) (length (padded m) / 64))
+digest-bytes m = joined-bytes (lastValue m)

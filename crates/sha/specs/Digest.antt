@@ -115,12 +115,14 @@ eightBytes v =
 unfoldable pub padded : List ℕ → List ℕ
 padded m = m ++ (0x80 ∷ replicate (gap (length m)) 0) ++ eightBytes (8 * length m % 2 ^ 64)
 
+-- the hash value after all blocks of the padded message
+unfoldable pub lastValue : List ℕ → List ℕ
+lastValue m = let p : List ℕ = padded m in absorbed startWords p (length p / 64)
+
 -- a word's four bytes, big-endian
 unfoldable pub fourBytes : ℕ → List ℕ
 fourBytes w = (w / 2 ^ 24 % 256) ∷ (w / 2 ^ 16 % 256) ∷ (w / 2 ^ 8 % 256) ∷ (w % 256) ∷ []
 
--- the digest of a message: the last hash value, as bytes
+-- the digest of a message: its last hash value as bytes
 unfoldable pub sha256 : List ℕ → List ℕ
-sha256 m =
-    let p : List ℕ = padded m in
-    joined fourBytes (absorbed startWords p (length p / 64))
+sha256 m = joined fourBytes (lastValue m)

@@ -1,0 +1,3 @@
+pub mod Mac
+pub mod Keyed
+pub mod Laws
