@@ -41,7 +41,7 @@ pub way-high : (k low n m : ℕ) → n / 2 ^ low ≡ m / 2 ^ low → way k low n
 way-high zero low n m q = refl
 way-high (suc k) low n m q = ap₂ (λ (b : Bool) (l : List Bool). b ∷ l) (bit-high k low n m q) (way-high k low n m q)
 
-quot : (q w n : ℕ) → q * 2 ^ w ≤ n → n < q * 2 ^ w + 2 ^ w → n / 2 ^ w ≡ q
+pub quot : (q w n : ℕ) → q * 2 ^ w ≤ n → n < q * 2 ^ w + 2 ^ w → n / 2 ^ w ≡ q
 quot q w n a b =
     let lo = n - q * 2 ^ w in
     let s : n ≡ q * 2 ^ w + lo = omega arith in
@@ -90,7 +90,7 @@ odd-bit k low =
     rw (z, q, m)
 
 -- one step down
-stepped : (g : Expansion) (d : ℕ) (v : List ℕ) (e p n : ℕ) (b : Bool) → e < d → IsNode d (nodeAt e p) → Covers d (nodeAt e p) n → bit (0 + (d - suc e)) n ≡ b →
+pub stepped : (g : Expansion) (d : ℕ) (v : List ℕ) (e p n : ℕ) (b : Bool) → e < d → IsNode d (nodeAt e p) → Covers d (nodeAt e p) n → bit (0 + (d - suc e)) n ≡ b →
     valueOf g d v (nodeAt (suc e) n) ≡ stepOf g b (valueOf g d v (nodeAt e p))
 stepped g d v e p n b l i c q =
     let o : suc e - e ≡ 1 = omega arith in

@@ -11,3 +11,5 @@ pub mod Descent
 pub mod Computed
 pub mod Keys
 pub mod Shapes
+pub mod Sift
+pub mod Turns

@@ -8,7 +8,8 @@ use lib.Dec.{T}
 use lib.Pow.{pow-mono, pow-pos}
 use Rattle.tree.specs.declared.Node.{Node}
 use Rattle.tree.specs.Nodes.{nodeAt, leftOf, rightOf, widthOf, IsNode, Twins}
-use Rattle.tree.proofs.Members.{depth, first}
+use Rattle.tree.proofs.Members.{depth, first, Range, range}
+use Rattle.tree.proofs.Places.{is-under}
 use Rattle.tree.proofs.Choice.{node-eq}
 
 pub told : (b : Bool) → b ≡ true → T b
@@ -91,3 +92,7 @@ twins-to d w x y q t =
       even = v;
       next = omega arith;
     }
+
+-- a node ends within the tree
+pub node-end : (d : ℕ) (x : Node) → IsNode d x → first x + widthOf d (depth x) ≤ 2 ^ d
+node-end d x i = let r = range d 0 d 0 x (omega arith) (is-under d x i) in omega arith

@@ -34,6 +34,12 @@ pub record IsNode (d : ℕ) (x : Node) : Type 0 where
 abbrev pub Covers : ℕ → Node → ℕ → Type 0
 Covers d x n = (x .first ≤ n) × (n < x .first + widthOf d (x .depth))
 
+-- x is a node, of a tree that the code goes with, and covers n: there is a way from x down to n
+pub record Above (d : ℕ) (x : Node) (n : ℕ) : Type 0 where
+  pub few : d ≤ mostLevels
+  pub isNode : IsNode d x
+  pub covers : Covers d x n
+
 -- the two children of a node
 abbrev pub leftOf : Node → Node
 leftOf x = nodeAt (suc (x .depth)) (x .first)

@@ -5,9 +5,11 @@ use mathlib.Core.Bool.{Bool, true, false}
 use mathlib.Core.Logic.{_↔_}
 use Prim.Native.Nat.{ℕ, zero, suc, _+_, _-_, _^_, _≤_, _<_}
 use lib.Dec.{ltb}
-use lib.ListN.{length}
+use lib.ListN.{length, replicate}
+use Rattle.std.specs.declared.option.Option.{Option}
+use Rattle.std.specs.declared.option.Option.the-variants.{Some, None}
 use Rattle.tree.specs.declared.Node.{Node}
-use Rattle.tree.specs.Nodes.{nodeAt, IsNode, Covers, Child}
+use Rattle.tree.specs.Nodes.{mostLevels, nodeAt, rootNode, IsNode, Covers, Child, Above}
 use Rattle.tree.specs.Cover.{In, Ordered, cover}
 
 -- where the child on the way begins: at p on the left, at the middle m on the right
@@ -28,6 +30,11 @@ siblingsOn e (suc h) p n = flank (ltb n (p + 2 ^ h)) (suc e) p (p + 2 ^ h) (sibl
 -- from the node x of a tree of d levels down to the leaf n
 abbrev pub siblingsFrom : ℕ → Node → ℕ → List Node
 siblingsFrom d x n = siblingsOn (x .depth) (d - x .depth) (x .first) n
+
+-- what listing them answers, and what a row of as many nodes as the most levels holds then
+abbrev pub Listed : ℕ → Node → ℕ → Option ℕ → List Node → Type 0
+Listed d x n (Some k) row = Above d x n × (k ≡ d - x .depth) × (row ≡ siblingsFrom d x n ++ replicate (mostLevels - k) rootNode)
+Listed d x n None row = (Above d x n → ⊥) × (row ≡ replicate mostLevels rootNode)
 
 -- ---- what is proved of them
 -- y does not cover n, and is a child of a node that covers n and is not above x

@@ -6,6 +6,7 @@ use mathlib.Core.Logic.{_↔_}
 use Prim.Native.Nat.{ℕ, zero, suc, _+_, _-_, _/_, _%_, _^_, _≤_, _<_}
 use lib.Dec.{eqb}
 use lib.ListN.{length}
+use Rattle.std.specs.Joined.{joined}
 use Rattle.tree.specs.declared.Node.{Node}
 use Rattle.tree.specs.Nodes.{nodeAt, rootNode, leftOf, rightOf, IsNode, Covers}
 use Rattle.tree.specs.Cover.{In, Free, cover}
@@ -51,6 +52,10 @@ keyFrom g d x v n = follow g v (wayFrom d x n)
 -- the value of a node y under x, as it follows from x's value v
 abbrev pub valueFrom : Expansion → ℕ → Node → List ℕ → Node → List ℕ
 valueFrom g d x v y = follow g v (way (y .depth - x .depth) (d - y .depth) (y .first))
+
+-- the values of the siblings on the way from x to n, one after the other in the siblings' order
+abbrev pub siblingValues : Expansion → ℕ → Node → List ℕ → ℕ → List ℕ
+siblingValues g d x v n = joined (valueFrom g d x v) (siblingsFrom d x n)
 
 -- ---- what is proved of them
 pub record TreeLaw (g : Expansion) (d : ℕ) (v : List ℕ) : Type 0 where

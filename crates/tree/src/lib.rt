@@ -1,11 +1,12 @@
 //! The key tree: its nodes, the cover of the spent numbers, and the values.
 ghost use mathlib.Core.Path.{_≡_};
-ghost use Prim.Native.Nat.{ℕ, _≤_, _<_};
+ghost use Prim.Native.Nat.{ℕ, _+_, _^_, _≤_, _<_};
 ghost use lib.Dec.{T};
+ghost use lib.ListN.{length};
 ghost use Rattle.std.specs.declared.option.Option.the-variants.{Some, None};
 ghost use Rattle.tree.specs.Nodes.{mostLevels, widthOf, IsNode, Covers, HasChildren, leftOf, rightOf, Twins};
 ghost use Rattle.tree.specs.Cover.{Characterised, InOrder, Exactly, AtMostOne, Exhausted, Least, SameSet, Few};
-ghost use Rattle.tree.specs.Puncture.{SiblingsAre, Punctured, PuncturedAt};
+ghost use Rattle.tree.specs.Puncture.{siblingsOn, Listed, SiblingsAre, Punctured, PuncturedAt};
 ghost use Rattle.tree.specs.Values.{ValuesAre, Composed, KeyFrom, Agreed, PuncturedValues, KeysOf};
 ghost use Rattle.tree.specs.Examples.{Examples};
 
@@ -14,6 +15,9 @@ pub const LEVELS: u8 = 16;
 
 /// The most levels that a tree may have here.
 pub const MOST_LEVELS: u8 = 24;
+
+/// The length of a row for the siblings on any way down.
+pub const ROW: usize = MOST_LEVELS as usize;
 
 /// A node: how deep below the root, and the first number that it covers.
 #[derive(Clone, Copy)]
@@ -90,6 +94,48 @@ impl Node {
         }
         let width = self.width(height);
         self.first % (2 * width) == 0 && self.first + width == next.first
+    }
+
+    /// Lists the siblings of the nodes on the way from this node down to `n`, in increasing order, and answers how many
+    /// there are: one for each level. The rest of the row holds the root; so does all of it where there is no such way.
+    pub fn siblings(&self, height: u8, n: u32, row: &mut [Node; ROW]) -> Option<usize>
+        ensures { λ r. ⌜ Listed height (now (self .entry)) n r (now (row .exit)) ⌝ }
+    {
+        *row = [Node { depth: 0, first: 0 }; ROW];
+        if !self.covers(height, n) {
+            return None;
+        }
+        let count = usize::from(height - self.depth);
+        list_siblings(&mut row[0..count], self.depth, self.first, n);
+        Some(count)
+    }
+}
+
+// Fills the row with the siblings on the way from (depth, first) down to `n`, one for each level: those on the left of
+// the way from the front, those on its right from the back.
+fn list_siblings(row: &mut [Node], depth: u8, first: u32, n: u32)
+    requires levels { ⌜ depth + length (now row) ≤ mostLevels ⌝ }
+    requires numbers { ⌜ first + 2 ^ length (now row) ≤ 2 ^ mostLevels ⌝ }
+    ensures { λ _. ⌜ now (row .exit) ≡ siblingsOn depth (length (now (row .entry))) first n ⌝ }
+{
+    let mut e = depth;
+    let mut p = first;
+    let mut lo = 0;
+    let mut hi = row.len();
+    while lo < hi {
+        let half = 1u32 << (hi - lo - 1);
+        e += 1;
+        if n < p + half {
+            hi -= 1;
+            row[hi] = Node {
+                depth: e,
+                first: p + half,
+            };
+        } else {
+            row[lo] = Node { depth: e, first: p };
+            lo += 1;
+            p += half;
+        }
     }
 }
 
