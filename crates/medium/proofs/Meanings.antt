@@ -12,8 +12,11 @@ use Rattle.std.specs.declared.result.Result.the-variants.{Ok, Err}
 use Rattle.device.specs.Effects.{Slot, Slots, Answer, Writing, Tearing, torn, slotSize}
 use Rattle.medium.specs.declared.Cut.{Cut}
 use Rattle.medium.specs.Rows.{slotsIn}
-use Rattle.medium.specs.Appointed.{Struck}
+use Rattle.medium.specs.Appointed.{Struck, partly}
 use Rattle.medium.proofs.Rows as rows
+
+pub partly-low : (m : ℕ) → partly m ≤ slotSize
+partly-low m = omega arith
 
 module _ (many : ℕ → ℕ) (room : (l : ℕ) → many l * slotSize ≤ l) where
   abbrev slots : List ℕ → Slots

@@ -3,7 +3,7 @@ use mathlib.Core.Path.{_≡_}
 use mathlib.Core.Bool.{Bool, true, false}
 use mathlib.Core.Logic.{_⊎_}
 use mathlib.Core.List.{List}
-use Prim.Native.Nat.{ℕ, zero, suc, _*_, _<_}
+use Prim.Native.Nat.{ℕ, zero, suc, _*_, _<_, min}
 use lib.ListN.{length}
 use lib.Seq.{paste}
 use Rattle.std.specs.declared.option.Option.{Option}
@@ -30,6 +30,10 @@ laterIn (suc k) m = Some (record { after = k; standing = m })
 abbrev pub later : Option Cut → Option Cut
 later None = None
 later (Some c) = laterIn (c .after) (c .standing)
+
+-- how many bytes stand on a device that tears: as many as were appointed, and at most the slot's
+abbrev pub partly : ℕ → ℕ
+partly m = min m slotSize
 
 -- A write of b to slot i on a device that cuts only by appointment, exactly: the row of bytes that it lies over, its power and its
 -- appointment c, before and after; stand tells how many bytes of a cut write are in place.
