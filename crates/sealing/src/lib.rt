@@ -46,8 +46,9 @@ pub trait Scheme {
     fn extra(&self) -> usize
         ensures { λ r. ⌜ r ≡ extra (now (self .entry)) ⌝ };
 
-    /// Writes a block of the keystream to the start of the pad.
+    /// Writes a block of the keystream to the start of the pad. A plain takes no more blocks than it has bytes.
     fn block(&self, key: &[u8; 32], index: u32, pad: &mut [u8; 64])
+        requires { ⌜ index < plainLimit ⌝ }
         ensures { λ _. ⌜ take (size (now (self .entry))) (now (pad .exit)) ≡ block (now (self .entry)) (now (key .entry)) index ⌝ };
 
     /// Writes the tag of a heading and a covered plain to the start of a row.

@@ -1,0 +1,14 @@
+use Prim.Native.Nat.{ℕ}
+use mathlib.Core.Path.{ap, _∙_}
+use mathlib.Core.List.{List}
+use native.Mathlib.Omega.{arith}
+use lib.ListN.{take}
+use Rattle.std.proofs.shelf.Lists.{take-all}
+use Rattle.hmacseal.specs.Meaning.{tagOf}
+use Rattle.hmacseal.proofs.HmacScheme.tag.Needs as need
+
+pub returns : need.returns
+unfolding tagOf
+returns c =
+    take-all 32 (c .finish .last .out) (omega arith)
+    ∙ c .finish .ensures .is _ _ (c .update-3 .ensures _ _ (c .update-2 .ensures _ _ (c .update .ensures _ _ (c .new-mac .ensures .keyed))))
