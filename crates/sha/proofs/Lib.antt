@@ -3,3 +3,4 @@ pub mod Added
 pub mod Absorbed
 pub mod Digests
 pub mod Feeding
+pub mod Rounds

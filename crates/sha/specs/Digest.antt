@@ -61,7 +61,14 @@ unfoldable pub scheduled : List ℕ → ℕ → List ℕ
 scheduled b zero = map (wordOf b) (counting 0 16)
 scheduled b (suc n) = let w : List ℕ = scheduled b n in w ++ nextOf w n ∷ []
 
--- a round with K = k and W = w, on the working variables a .. h in this order
+-- T1 and T2 of a round with K = k and W = w
+unfoldable pub firstSum : ℕ → ℕ → ℕ → ℕ → ℕ → ℕ → ℕ
+firstSum e f g h k w = plus (plus (plus (plus h (bigSigma1 e)) (choose e f g)) k) w
+
+unfoldable pub secondSum : ℕ → ℕ → ℕ → ℕ
+secondSum a b c = plus (bigSigma0 a) (majority a b c)
+
+-- such a round, on the working variables a .. h in this order
 unfoldable pub roundOf : ℕ → ℕ → List ℕ → List ℕ
 roundOf k w s =
     let a : ℕ = getD s 0 0 in
@@ -72,8 +79,8 @@ roundOf k w s =
     let f : ℕ = getD s 5 0 in
     let g : ℕ = getD s 6 0 in
     let h : ℕ = getD s 7 0 in
-    let t1 : ℕ = plus (plus (plus (plus h (bigSigma1 e)) (choose e f g)) k) w in
-    let t2 : ℕ = plus (bigSigma0 a) (majority a b c) in
+    let t1 : ℕ = firstSum e f g h k w in
+    let t2 : ℕ = secondSum a b c in
     plus t1 t2 ∷ a ∷ b ∷ c ∷ plus d t1 ∷ e ∷ f ∷ g ∷ []
 
 -- the first n rounds, over the schedule w

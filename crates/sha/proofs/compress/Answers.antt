@@ -1,34 +1,34 @@
-use Prim.Native.Nat.{ℕ, _+_, _<_}
+use Prim.Native.Nat.{ℕ, _+_, _*_}
 use mathlib.Core.Path.{_≡_, refl, ap, sym, _∙_}
 use mathlib.Core.List.{List, [], _∷_}
-use native.Mathlib.Numerals.{add-one}
 use native.Mathlib.Omega.{arith}
 use lib.ListN.{length, getD, take, drop, length-set}
 use Rattle.std.proofs.shelf.Lists.{take-more-set, take-more, take-all, drop-more, drop-set-lt}
-use Rattle.sha.specs.Digest.{added, roundsOf, plus, compressed, roundOf}
+use Rattle.sha.specs.Digest.{added, roundsOf, plus, compressed}
 use Rattle.sha.proofs.Added.{length-added, getD-added}
+use Rattle.sha.proofs.Digests.{rounds-long}
 use Rattle.sha.proofs.compress.Needs as need
 
-round-long : (k w : ℕ) (s : List ℕ) → length (roundOf k w s) ≡ 8
-unfolding roundOf
-round-long k w s = refl
-
-pub loop-t-holds : need.loop-t-holds
+pub loop-n-holds : need.loop-n-holds
 unfolding roundsOf
-loop-t-holds c = (refl, c .told-state)
+loop-n-holds c = (refl, c .told-state)
 
-pub loop-t-again : need.loop-t-again
-unfolding roundsOf
-loop-t-again c = (rw add-one (cc (c .round-word .ensures .is)), ap length (c .round-s .ensures) ∙ round-long _ _ _)
+pub loop-n-again : need.loop-n-again
+loop-n-again c =
+    let w : List ℕ = c .schedule-w .result in
+    let v : List ℕ = c .args .state .now in
+    let next : 8 * (c .loop-n .n + 1) ≡ 8 * c .loop-n .n + 8 = omega arith in
+    let is : c .eight-rounds-s .result ≡ roundsOf w (8 * c .loop-n .n + 8) v = c .eight-rounds-s .ensures v (c .loop-n .inv .0) in
+    (is ∙ ap (λ (k : ℕ). roundsOf w k v) (sym next), ap length is ∙ rounds-long w (8 * c .loop-n .n + 8) v (c .told-state))
 
 pub loop-i-again : need.loop-i-again
 unfolding plus
 loop-i-again c =
     let i : ℕ = c .loop-i .i in
     let old : List ℕ = c .args .state .now in
-    let s : List ℕ = c .loop-t .s in
+    let s : List ℕ = c .loop-n .s in
     let st : List ℕ = c .loop-i .state in
-    let wide : length s ≡ 8 = c .loop-t .inv .1 in
+    let wide : length s ≡ 8 = c .loop-n .inv .1 in
     let same : length old ≡ length s = c .told-state ∙ sym wide in
     let a : List ℕ = added old s in
     let long : length a ≡ length old = length-added old s same in
@@ -47,11 +47,11 @@ pub returns : need.returns
 unfolding compressed
 returns c =
     let old : List ℕ = c .args .state .now in
-    let s : List ℕ = c .loop-t .s in
-    let wide : length s ≡ 8 = c .loop-t .inv .1 in
+    let s : List ℕ = c .loop-n .s in
+    let wide : length s ≡ 8 = c .loop-n .inv .1 in
     let long : length (added old s) ≡ length old = length-added old s (c .told-state ∙ sym wide) in
-    let m : c .loop-t .t ≡ 64 = omega arith in
+    let m : 8 * c .loop-n .n ≡ 64 = omega arith in
     sym (take-all (c .loop-i .i) (c .loop-i .state) (omega arith))
     ∙ c .loop-i .inv .0
     ∙ take-all (c .loop-i .i) (added old s) (omega arith)
-    ∙ rw (c .loop-t .inv .0, m, c .schedule-w .ensures)
+    ∙ rw (c .loop-n .inv .0, m, c .schedule-w .ensures)
