@@ -121,7 +121,8 @@ fn place<D: TearSlots>(d: &mut D, index: usize, bytes: &[u8; 64]) -> Result<(), 
     mark[0] = RAISED;
     d.write(MARK, &mark)?;
     d.write(index + FIRST, bytes)?;
-    d.write(MARK, &[0; 64])
+    mark = [0; 64];
+    d.write(MARK, &mark)
 }
 
 // Clears, and leaves the pad blank on every way out.
