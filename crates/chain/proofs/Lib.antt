@@ -1,0 +1,4 @@
+pub mod Order
+pub mod Walks
+pub mod Going
+pub mod Judging
