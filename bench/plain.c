@@ -1,4 +1,5 @@
-/* ChaCha20's block (RFC 8439) and SHA-256 (FIPS 180-4) as one would write them in plain C. */
+/* ChaCha20's block (RFC 8439), SHA-256 (FIPS 180-4), HMAC (RFC 2104) and the two sealers, as one would write them in
+   plain C. */
 #include "plain.h"
 #include <string.h>
 
@@ -78,16 +79,114 @@ static void compress(uint32_t h[8], const uint8_t *block)
     for (int i = 0; i < 8; i++) h[i] += s[i];
 }
 
+typedef struct {
+    uint32_t h[8];
+    uint8_t tail[64];
+    uint64_t total;
+} sha;
+
+static void sha_init(sha *s)
+{
+    static const uint32_t start[8] = {0x6a09e667, 0xbb67ae85, 0x3c6ef372, 0xa54ff53a, 0x510e527f, 0x9b05688c, 0x1f83d9ab, 0x5be0cd19};
+    memcpy(s->h, start, sizeof start);
+    s->total = 0;
+}
+
+static void sha_update(sha *s, const uint8_t *part, size_t length)
+{
+    size_t begun = s->total % 64;
+    s->total += length;
+    if (begun > 0) {
+        size_t n = length < 64 - begun ? length : 64 - begun;
+        memcpy(s->tail + begun, part, n);
+        if (begun + n < 64) return;
+        compress(s->h, s->tail);
+        part += n;
+        length -= n;
+    }
+    for (; length >= 64; part += 64, length -= 64) compress(s->h, part);
+    memcpy(s->tail, part, length);
+}
+
+static void sha_final(sha *s, uint8_t out[32])
+{
+    size_t begun = s->total % 64;
+    uint64_t bits = s->total * 8;
+    s->tail[begun++] = 0x80;
+    if (begun > 56) {
+        memset(s->tail + begun, 0, 64 - begun);
+        compress(s->h, s->tail);
+        begun = 0;
+    }
+    memset(s->tail + begun, 0, 56 - begun);
+    for (int i = 0; i < 8; i++) s->tail[63 - i] = bits >> 8 * i;
+    compress(s->h, s->tail);
+    for (int i = 0; i < 32; i++) out[i] = s->h[i / 4] >> (24 - 8 * (i % 4));
+}
+
 void plain_sha256(const uint8_t *message, size_t length, uint8_t out[32])
 {
-    uint32_t h[8] = {0x6a09e667, 0xbb67ae85, 0x3c6ef372, 0xa54ff53a, 0x510e527f, 0x9b05688c, 0x1f83d9ab, 0x5be0cd19};
-    uint8_t last[128] = {0};
-    size_t whole = length / 64 * 64, rest = length - whole, end = rest < 56 ? 64 : 128;
-    uint64_t bits = (uint64_t)length * 8;
-    for (size_t at = 0; at < whole; at += 64) compress(h, message + at);
-    memcpy(last, message + whole, rest);
-    last[rest] = 0x80;
-    for (int i = 0; i < 8; i++) last[end - 1 - i] = bits >> 8 * i;
-    for (size_t at = 0; at < end; at += 64) compress(h, last + at);
-    for (int i = 0; i < 32; i++) out[i] = h[i / 4] >> (24 - 8 * (i % 4));
+    sha s;
+    sha_init(&s);
+    sha_update(&s, message, length);
+    sha_final(&s, out);
+}
+
+/* HMAC under a key of 32 bytes. */
+typedef struct {
+    sha inner, outer;
+} mac;
+
+static void mac_init(mac *m, const uint8_t key[32])
+{
+    uint8_t pad[64];
+    for (int i = 0; i < 64; i++) pad[i] = (i < 32 ? key[i] : 0) ^ 0x36;
+    sha_init(&m->inner);
+    sha_update(&m->inner, pad, 64);
+    for (int i = 0; i < 64; i++) pad[i] ^= 0x36 ^ 0x5c;
+    sha_init(&m->outer);
+    sha_update(&m->outer, pad, 64);
+}
+
+static void mac_final(mac *m, uint8_t out[32])
+{
+    sha_final(&m->inner, out);
+    sha_update(&m->outer, out, 32);
+    sha_final(&m->outer, out);
+}
+
+void plain_chacha_seal(const uint8_t key[32], const uint8_t heading[20], const uint8_t *plain, size_t length, uint8_t *out)
+{
+    static const uint8_t nonce[12];
+    uint8_t block[64], tag[32];
+    mac m;
+    for (size_t i = 0; i < length; i++) {
+        if (i % 64 == 0) plain_chacha_block(key, 1 + i / 64, nonce, block);
+        out[i] = plain[i] ^ block[i % 64];
+    }
+    mac_init(&m, key);
+    sha_update(&m.inner, heading, 20);
+    sha_update(&m.inner, out, length);
+    mac_final(&m, tag);
+    memcpy(out + length, tag, 16);
+}
+
+void plain_hmac_seal(const uint8_t key[32], const uint8_t heading[20], const uint8_t *plain, size_t length, uint8_t *out)
+{
+    uint8_t block[32], place[5] = {1}, two = 2;
+    mac m;
+    for (size_t i = 0; i < length; i++) {
+        if (i % 32 == 0) {
+            place[4] = i / 32;
+            mac_init(&m, key);
+            sha_update(&m.inner, place, 5);
+            mac_final(&m, block);
+        }
+        out[i] = plain[i] ^ block[i % 32];
+    }
+    mac_init(&m, key);
+    sha_update(&m.inner, &two, 1);
+    sha_update(&m.inner, heading, 20);
+    sha_update(&m.inner, out, length);
+    mac_final(&m, out + length);
 }
