@@ -1,8 +1,7 @@
 //! The block function of ChaCha20 (RFC 8439, section 2.3).
 ghost use mathlib.Core.Path.{_≡_};
-ghost use mathlib.Core.List.{_++_, _∷_};
-ghost use Prim.Native.Nat.{ℕ, _+_, _*_, _%_, _^_, _<_, _≤_};
-ghost use lib.ListN.{length, getD, set, take};
+ghost use Prim.Native.Nat.{_+_, _*_, _^_, _<_, _≤_};
+ghost use lib.ListN.{length};
 ghost use Rattle.chacha.specs.Cipher.{mixed, quarterRound, columnRounds, diagonalRounds, wordOf, startOf, blockOf};
 ghost use Rattle.chacha.specs.Laws.{BlockLaws};
 

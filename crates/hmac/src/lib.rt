@@ -1,8 +1,8 @@
 //! HMAC (RFC 2104) over SHA-256, of a message that is fed in parts.
 ghost use mathlib.Core.Path.{_≡_};
-ghost use mathlib.Core.List.{List, [], _++_, map};
-ghost use Prim.Native.Nat.{ℕ, _≤_};
-ghost use lib.ListN.{length, replicate};
+ghost use mathlib.Core.List.{List, [], _++_};
+ghost use Prim.Native.Nat.{ℕ};
+ghost use lib.ListN.{replicate};
 ghost use Rattle.hmac.specs.Mac.{keyBlock, masked, hmac};
 ghost use Rattle.hmac.specs.Keyed.{Keyed};
 ghost use Rattle.hmac.specs.Laws.{MacLaws};

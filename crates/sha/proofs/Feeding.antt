@@ -1,11 +1,11 @@
 -- What feeding a part does to the meaning of a hash in progress.
-use Prim.Native.Nat.{ℕ, zero, suc, _+_, _-_, _*_, _/_, _%_, _^_, _≤_, _<_}
-use mathlib.Core.Path.{_≡_, refl, ap, sym, subst, _∙_}
-use mathlib.Core.List.{List, [], _∷_, _++_}
+use Prim.Native.Nat.{ℕ, suc, _+_, _-_, _*_, _/_, _%_, _^_, _≤_, _<_}
+use mathlib.Core.Path.{_≡_, refl, _∙_}
+use mathlib.Core.List.{List, [], _++_}
 use native.Mathlib.Omega.{arith}
 use lib.ListN.{length, take, drop, set, replicate, length-append, length-drop}
 use borrow.Rule.Slice.PartMut.{putMid}
-use Rattle.std.proofs.shelf.Lists.{take-append-le, drop-append-le, take-all, drop-all, append-assoc, take-append-drop, take-rest, take-replicate}
+use Rattle.std.proofs.shelf.Lists.{drop-append-le, take-all, drop-all, append-assoc, take-append-drop, take-rest, take-replicate}
 use Rattle.std.proofs.shelf.Parts.{take-putMid}
 use Rattle.sha.specs.declared.Sha256.{Sha256}
 use Rattle.sha.specs.Digest.{blockAt, compressed, absorbed, startWords, gap, eightBytes, padded}

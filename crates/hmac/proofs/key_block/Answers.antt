@@ -1,8 +1,4 @@
-use Prim.Native.Nat.{ℕ}
-use mathlib.Core.Path.{_≡_}
-use mathlib.Core.List.{[], _++_}
-use lib.ListN.{length, replicate}
-use Rattle.sha.specs.Digest.{sha256}
+use mathlib.Core.List.{[]}
 use Rattle.hmac.proofs.Macs.{short-block, long-block}
 use Rattle.hmac.proofs.key_block.Needs as need
 

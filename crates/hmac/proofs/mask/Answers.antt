@@ -1,9 +1,9 @@
 use Prim.Native.Nat.{ℕ, _+_}
 use mathlib.Core.Path.{_≡_, refl, ap, sym, _∙_}
-use mathlib.Core.List.{List, [], _∷_, _++_, map}
+use mathlib.Core.List.{List, _∷_}
 use native.Mathlib.Omega.{arith}
 use lib.Bits.{bitXor}
-use lib.ListN.{length, getD, take, drop, length-set}
+use lib.ListN.{getD, drop, length-set}
 use Rattle.std.proofs.shelf.Lists.{take-more-set, take-all, drop-more, drop-set-lt, map-more}
 use Rattle.hmac.specs.Mac.{masked}
 use Rattle.hmac.proofs.mask.Needs as need

@@ -1,8 +1,8 @@
 use Prim.Native.Nat.{ℕ, _+_, _*_}
 use mathlib.Core.Path.{_≡_, refl, ap, sym, _∙_}
-use mathlib.Core.List.{List, [], _∷_}
+use mathlib.Core.List.{List, _∷_}
 use native.Mathlib.Omega.{arith}
-use lib.ListN.{length, getD, take, drop, length-set}
+use lib.ListN.{length, getD, drop, length-set}
 use Rattle.std.proofs.shelf.Lists.{take-more-set, take-more, take-all, drop-more, drop-set-lt}
 use Rattle.sha.specs.Digest.{added, roundsOf, plus, compressed}
 use Rattle.sha.proofs.Added.{length-added, getD-added}

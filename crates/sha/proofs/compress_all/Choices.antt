@@ -1,5 +1,4 @@
 use mathlib.Core.Path.{_≡_}
-use Prim.Native.Nat.{_*_}
 use lib.ListN.{length}
 use Rattle.sha.specs.Digest.{absorbed}
 use Rattle.sha.proofs.compress_all.Given as given

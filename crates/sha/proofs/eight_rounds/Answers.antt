@@ -1,8 +1,7 @@
 use Prim.Native.Nat.{ℕ, _+_}
-use mathlib.Core.Path.{_≡_, refl, sym, _∙_}
+use mathlib.Core.Path.{sym, _∙_}
 use mathlib.Core.List.{List}
 use native.Mathlib.Omega.{arith}
-use lib.ListN.{length}
 use Rattle.sha.specs.Digest.{plus}
 use Rattle.sha.proofs.Rounds.{eight, one-more}
 use Rattle.sha.proofs.eight_rounds.Needs as need

@@ -1,9 +1,9 @@
 use Prim.Native.Nat.{ℕ, suc, _+_, _<_}
-use mathlib.Core.Path.{_≡_, refl, ap, sym, subst, _∙_}
-use mathlib.Core.List.{List, [], _∷_, _++_}
+use mathlib.Core.Path.{_≡_, subst}
+use mathlib.Core.List.{List}
 use native.Mathlib.Nat.{add-zero}
 use native.Mathlib.Omega.{arith}
-use lib.ListN.{length, getD, set, take, length-set}
+use lib.ListN.{length, set, take, length-set}
 use Rattle.std.proofs.shelf.Lists.{take-more-set, getD-take}
 use Rattle.sha.specs.Digest.{nextOf, scheduled}
 use Rattle.sha.proofs.next_eight.Needs as need

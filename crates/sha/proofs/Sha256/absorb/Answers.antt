@@ -1,5 +1,3 @@
-use Prim.Native.Nat.{_+_, _%_, _<_}
-use mathlib.Core.Path.{_≡_, refl}
 use native.Mathlib.Omega.{arith}
 use Rattle.sha.proofs.Feeding.{joined-blocks}
 use Rattle.sha.proofs.Sha256.absorb.Needs as need
