@@ -2,3 +2,9 @@ pub mod Order
 pub mod Walks
 pub mod Going
 pub mod Judging
+pub mod Chains
+pub mod Lowness
+pub mod Finds
+pub mod Files
+pub mod Backs
+pub mod Frees

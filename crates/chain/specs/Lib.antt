@@ -2,3 +2,4 @@ pub mod Listing
 pub mod Reading
 pub mod Outcome
 pub mod Steps
+pub mod Sound

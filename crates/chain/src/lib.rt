@@ -5,7 +5,7 @@
 ghost use mathlib.Core.Path.{_≡_};
 ghost use mathlib.Core.Bool.{true};
 ghost use mathlib.Core.List.{List};
-ghost use Prim.Native.Nat.{ℕ, suc, _+_, _^_, _<_, _≤_};
+ghost use Prim.Native.Nat.{ℕ, suc, max, _+_, _^_, _<_, _≤_};
 ghost use lib.ListN.{length};
 ghost use Rattle.std.specs.declared.option.Option.the-variants.{Some, None};
 ghost use Rattle.bytes.specs.Buffers.{zeros};
@@ -17,7 +17,9 @@ ghost use Rattle.chain.specs.Reading.{Link, Walk.walked, endOf, mayFollow, wal
 ghost use Rattle.chain.specs.Listing.{counted, tallyOf, noneYet, markedAll};
 ghost use Rattle.chain.specs.Outcome.{Reading.read, chainOf, readingOf, answerOf, marksOf, Fetching, headRead, recordRead};
 ghost use Rattle.layout.specs.declared.Head.{Head};
+ghost use Rattle.chain.specs.Sound.{FileLaws, FreeAre, freeIn};
 ghost use Rattle.chain.specs.Steps.{Preceding};
+ghost use Rattle.marks.specs.Rows.{firstOf};
 use bytes::Wiped;
 use bytes::clear;
 use device::DeviceFault;
@@ -28,6 +30,8 @@ use layout::Head;
 use layout::NodeFields;
 use layout::decode_head;
 use layout::decode_node;
+use marks::count_unmarked;
+use marks::first_unmarked;
 use marks::mark;
 use marks::room;
 use refusal::Refusal;
@@ -298,7 +302,8 @@ pub fn read_marking<D: ReadSlots>(
     }
 }
 
-/// Reads a file as `read_marking` does, and leaves no marks.
+/// Reads a file as `read_marking` does, and leaves no marks. The laws say what a file that is read is, what is told of one
+/// that is not, and that a chain laid out as the cover of the spent numbers is read back.
 pub fn read_file<D: ReadSlots>(
     device: &D,
     generator: u8,
@@ -310,8 +315,25 @@ pub fn read_file<D: ReadSlots>(
     ensures is { λ r. ⌜ r ≡ answerOf treeLevels asked (readingOf treeLevels generator sealer (length (now (marks .entry))) (slots (now (device .entry))) (powered (now (device .entry)))) ⌝ }
     ensures marks { λ _. ⌜ now (marks .exit) ≡ zeros (length (now (marks .entry))) ⌝ }
     ensures wiped { λ _. ⌜ now (slot .exit) ≡ blank ⌝ }
+    ensures laws { λ _. ⌜ FileLaws ⌝ }
 {
     let read = read_marking(device, generator, sealer, asked, marks, slot);
     clear(marks);
     read
+}
+
+/// How many slots are free, by the marks that a reading left: the slots other than 0 off the chain.
+pub fn count_free(marks: &[u8], count: usize) -> usize
+    ensures is { λ r. ⌜ r ≡ length (freeIn 1 count (now (marks .entry))) ⌝ }
+    ensures free { λ _. ⌜ FreeAre ⌝ }
+{
+    count_unmarked(marks, 1, count)
+}
+
+/// The lowest free slot from a slot on, by the marks that a reading left.
+pub fn next_free(marks: &[u8], from: usize, count: usize) -> Option<usize>
+    ensures is { λ r. ⌜ r ≡ firstOf (freeIn (max from 1) count (now (marks .entry))) ⌝ }
+    ensures free { λ _. ⌜ FreeAre ⌝ }
+{
+    first_unmarked(marks, from.max(1), count)
 }
