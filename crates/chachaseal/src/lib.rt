@@ -1,8 +1,4 @@
 //! Sealer 1: ChaCha20 over the plain, and half of an HMAC-SHA-256 as the tag.
-ghost use mathlib.Core.Path.{_≡_};
-ghost use mathlib.Core.List.{_++_};
-ghost use Prim.Native.Nat.{_+_};
-ghost use lib.ListN.{take};
 ghost use Rattle.chachaseal.specs.Meaning.{streamBlock, tagOf, sealedBytes};
 use bytes::Wiped;
 use hmac::Hmac;

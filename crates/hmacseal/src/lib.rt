@@ -1,10 +1,6 @@
 //! Sealer 2: a keystream of HMAC-SHA-256 over the plain, and a whole HMAC-SHA-256 as the tag.
 //!
 //! One byte before what is hashed tells the two uses of the key apart.
-ghost use mathlib.Core.Path.{_≡_};
-ghost use mathlib.Core.List.{_++_, _∷_};
-ghost use Prim.Native.Nat.{_+_};
-ghost use lib.ListN.{take};
 ghost use Rattle.hmacseal.specs.Meaning.{streamBlock, tagOf, sealedBytes};
 use bytes::Wiped;
 use hmac::Hmac;

@@ -1,19 +1,18 @@
 -- The test of a state's fields, and the limit of its lifetime by example.
-use Prim.Native.Nat.{ℕ, _+_, _-_, _^_, _<_, _≤_}
-use mathlib.Core.Path.{_≡_, refl, ap, sym, subst, _∙_}
-use mathlib.Core.Bool.{Bool, true, false, cond, _&&_}
+use Prim.Native.Nat.{ℕ, _-_, _^_, _<_, _≤_}
+use mathlib.Core.Path.{_≡_, refl, ap, _∙_}
+use mathlib.Core.Bool.{true, false}
 use mathlib.Core.List.{List}
 use native.Mathlib.Omega.{arith}
 use lib.Dec.{ltb}
-use lib.ListN.{length, take, drop}
+use lib.ListN.{length, drop}
 use Rattle.std.specs.Orderings.{Decides}
 use Rattle.std.specs.Results.{isOk}
 use Rattle.std.proofs.shelf.Lists.{length-drop}
 use Rattle.std.proofs.shelf.Tests.{and-parts, and-from, leb-true, le-leb, le-ltb}
 use Rattle.std.specs.declared.option.Option.{Option}
 use Rattle.std.specs.declared.option.Option.the-variants.{Some, None}
-use Rattle.std.specs.declared.result.Result.the-variants.{Ok, Err}
-use Rattle.refusal.specs.declared.Refusal.{Refusal}
+use Rattle.std.specs.declared.result.Result.the-variants.{Err}
 use Rattle.refusal.specs.declared.Refusal.the-variants.{NotARecord}
 use Rattle.bytes.specs.Buffers.{zeros}
 use Rattle.session.specs.declared.Suite.{Suite}
@@ -22,7 +21,7 @@ use Rattle.session.specs.Limits.{nameLimit, mostLength}
 use Rattle.session.specs.Records.{blank, Typed, Fits, fieldsFit, encodeOf, recordSuite, readUnder, decodeOf, writtenOf}
 use Rattle.session.specs.Laws.{RecordLaws, LifetimeExamples, lasting}
 use Rattle.session.proofs.Rows.{blank-zeros, zeros-blank}
-use Rattle.session.proofs.Laid.{Laid, suite-laid}
+use Rattle.session.proofs.Laid.{suite-laid}
 use Rattle.session.proofs.Trip.{parts, back, forth, tells, read-test, record-long, least, most}
 
 pub fields-fit : (s : SessionState) → length (s .name) ≡ nameLimit → Decides (fieldsFit s) (Fits s)

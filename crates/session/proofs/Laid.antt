@@ -3,15 +3,14 @@ use Prim.Native.Nat.{ℕ, _+_, _<_, _≤_}
 use mathlib.Core.Path.{_≡_, refl, ap, sym, _∙_}
 use mathlib.Core.Bool.{Bool, true, false, _&&_, cond}
 use mathlib.Core.List.{List}
-use mathlib.Core.Logic.{inl, inr, ⊎-elim}
+use mathlib.Core.Logic.{⊎-elim}
 use native.Mathlib.Omega.{arith}
 use lib.Dec.{eqb, leb, ltb}
 use lib.ListN.{length, getD, take, drop}
-use Rattle.std.proofs.shelf.Tests.{cases-bool, and-parts, and-from, eqb-true, leb-true, ltb-true, ltb-false, eq-eqb, le-leb, lt-leb, and-left, and-right, lt-ltb, le-ltb}
+use Rattle.std.proofs.shelf.Tests.{cases-bool, and-parts, and-from, eqb-true, leb-true, ltb-false, eq-eqb, le-leb, lt-leb, and-left, and-right, lt-ltb, le-ltb}
 use Rattle.std.specs.declared.option.Option.{Option}
 use Rattle.std.specs.declared.option.Option.the-variants.{Some, None}
-use Rattle.std.specs.declared.result.Result.{Result}
-use Rattle.std.specs.declared.result.Result.the-variants.{Ok, Err}
+use Rattle.std.specs.declared.result.Result.the-variants.{Ok}
 use Rattle.bytes.specs.Fields.{numberOf}
 use Rattle.session.specs.declared.Suite.{Suite}
 use Rattle.session.specs.declared.Suite.the-variants.{Aes128GcmSha256, Aes256GcmSha384, ChaCha20Poly1305Sha256}

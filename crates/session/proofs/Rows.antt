@@ -1,21 +1,20 @@
 -- Rows of bytes: the parts of a list one after another, and a buffer that is filled part by part.
-use Prim.Native.Nat.{ℕ, zero, suc, _+_, _-_, _*_, _^_, _<_, _≤_}
+use Prim.Native.Nat.{ℕ, zero, suc, _+_, _-_, _^_, _<_, _≤_}
 use mathlib.Core.Path.{_≡_, refl, ap, sym, subst, _∙_}
-use mathlib.Core.Bool.{Bool, true, false, _&&_}
+use mathlib.Core.Bool.{true}
 use mathlib.Core.List.{List, [], _∷_, _++_}
-use mathlib.Core.Logic.{inl, inr, ⊎-elim}
+use mathlib.Core.Logic.{⊎-elim}
 use native.Mathlib.Numerals.{add-one}
 use native.Mathlib.Omega.{arith}
-use lib.ListN.{length, getD, set, take, drop, replicate}
+use lib.ListN.{length, set, take, drop}
 use lib.Seq.{paste}
 use lib.Dec.{eqb}
-use Rattle.std.specs.shelf.Lists.{All}
 use Rattle.std.proofs.shelf.Digits.{number-lt}
 use Rattle.std.proofs.shelf.Elements.{all-from-getD}
-use Rattle.std.proofs.shelf.Lists.{append-assoc, length-append, length-take-le, length-replicate, set-split, take-at, take-all, drop-at, drop-drop, drop-replicate, take-append-drop, getD-take, getD-drop, getD-past, getD-append-left, getD-append-right, getD-replicate, length-take}
-use Rattle.std.proofs.shelf.Tests.{cases-lt, and-parts, and-from, eqb-true}
+use Rattle.std.proofs.shelf.Lists.{append-assoc, length-append, length-replicate, set-split, take-at, take-all, drop-at, drop-drop, drop-replicate, take-append-drop, getD-take, getD-drop, getD-past, length-take}
+use Rattle.std.proofs.shelf.Tests.{cases-lt, and-parts, eqb-true}
 use Rattle.bytes.specs.Buffers.{zeros, filled}
-use Rattle.bytes.specs.Fields.{bytesOf, numberOf}
+use Rattle.bytes.specs.Fields.{numberOf}
 use Rattle.session.specs.Records.{Bytes, blank}
 
 -- what follows the part that stands at a place

@@ -1,9 +1,8 @@
 -- States and records determine each other.
 use Prim.Native.Nat.{ℕ, _+_, _-_, _^_, _<_, _≤_}
 use mathlib.Core.Path.{_≡_, refl, ap, sym, subst, _∙_}
-use mathlib.Core.Bool.{Bool, true, false, cond}
+use mathlib.Core.Bool.{true}
 use mathlib.Core.List.{List, [], _∷_, _++_}
-use mathlib.Core.Logic.{inl, inr, ⊎-elim}
 use native.Mathlib.Omega.{arith}
 use lib.ListN.{length, getD, take, drop}
 use Rattle.std.specs.Orderings.{Decides}
@@ -11,7 +10,7 @@ use Rattle.std.specs.Options.{isSome}
 use Rattle.std.specs.Results.{isOk}
 use Rattle.std.specs.Vec.{made}
 use Rattle.refusal.specs.declared.Refusal.{Refusal}
-use Rattle.std.proofs.shelf.Lists.{length-append, length-drop, length-take, length-take-le, take-at, drop-at, take-append-drop, getD-drop, drop-more}
+use Rattle.std.proofs.shelf.Lists.{length-drop, length-take-le, take-at, drop-at, take-append-drop, getD-drop, drop-more}
 use Rattle.std.specs.declared.option.Option.{Option}
 use Rattle.std.specs.declared.option.Option.the-variants.{Some, None}
 use Rattle.std.specs.declared.result.Result.{Result}
@@ -22,8 +21,8 @@ use Rattle.bytes.proofs.Fielded.{length-bytes, number-bytes, bytes-number}
 use Rattle.session.specs.declared.Suite.{Suite}
 use Rattle.session.specs.declared.Suite.the-variants.{Aes128GcmSha256, Aes256GcmSha384, ChaCha20Poly1305Sha256}
 use Rattle.session.specs.declared.SessionState.{SessionState}
-use Rattle.session.specs.Limits.{secretLength, nameLimit, lifetimeLimit, secretAt, nameAt, leastLength, mostLength}
-use Rattle.session.specs.Suites.{suiteNumber, suiteOf}
+use Rattle.session.specs.Limits.{secretLength, nameLimit, secretAt, nameAt, leastLength, mostLength}
+use Rattle.session.specs.Suites.{suiteNumber}
 use Rattle.session.specs.Records.{Bytes, Typed, Fits, encodeOf, IsRecord, recordSuite, isRecord, readOf, readUnder, decodeOf}
 use Rattle.session.proofs.Rows.{past, field, part-rest, bytes-drop, bytes-take, number-below, length-filled}
 use Rattle.session.proofs.Laid.{Laid, suite-laid, laid-suite, read-some}

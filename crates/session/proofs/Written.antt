@@ -5,11 +5,10 @@ use mathlib.Core.Bool.{true, false}
 use mathlib.Core.List.{List, [], _∷_, _++_}
 use native.Mathlib.Omega.{arith}
 use lib.Dec.{ltb}
-use lib.ListN.{length, set, take, drop}
+use lib.ListN.{length, set, take}
 use lib.Seq.{paste}
-use Rattle.std.specs.Results.{isOk}
 use Rattle.std.proofs.shelf.Lists.{append-assoc, length-append, length-take-le, take-at}
-use Rattle.std.proofs.shelf.Tests.{lt-ltb, le-ltb}
+use Rattle.std.proofs.shelf.Tests.{le-ltb}
 use Rattle.std.specs.declared.result.Result.{Result}
 use Rattle.std.specs.declared.result.Result.the-variants.{Ok, Err}
 use Rattle.bytes.specs.Buffers.{zeros, filled}
@@ -18,7 +17,7 @@ use Rattle.bytes.proofs.Fielded.{length-bytes}
 use Rattle.refusal.specs.declared.Refusal.{Refusal}
 use Rattle.refusal.specs.declared.Refusal.the-variants.{ShortBuffer, NotARecord}
 use Rattle.session.specs.declared.SessionState.{SessionState}
-use Rattle.session.specs.Limits.{nameAt, nameLimit, secretAt, secretLength, mostLength}
+use Rattle.session.specs.Limits.{nameAt, secretAt, mostLength}
 use Rattle.session.specs.Suites.{suiteNumber}
 use Rattle.session.specs.Records.{Typed, Fits, fieldsFit, encodeOf, decodeOf, writtenOf, bufferOf}
 use Rattle.session.proofs.Rows.{filled-none, filled-next, filled-byte}

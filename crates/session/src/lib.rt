@@ -3,15 +3,13 @@
 //! A record is the suite (2 bytes), the time of issue (8), the lifetime (4), the age add (4), the early data
 //! limit (4), the secret, the name's length (1) and the name, with nothing after it. Numbers are big-endian.
 ghost use mathlib.Core.Path.{_≡_};
-ghost use mathlib.Core.Bool.{true};
-ghost use Prim.Native.Nat.{ℕ, _+_, _≤_};
+ghost use Prim.Native.Nat.{_+_, _≤_};
 ghost use lib.ListN.{length, take};
 ghost use lib.Seq.{paste};
 ghost use Rattle.std.specs.Orderings.{Decides};
 ghost use Rattle.std.specs.Vec.{made};
 ghost use Rattle.std.specs.declared.option.Option.the-variants.{Some};
 ghost use Rattle.std.specs.declared.result.Result.the-variants.{Ok};
-ghost use Rattle.bytes.specs.Buffers.{filled};
 ghost use Rattle.session.specs.Limits.{secretLength, leastLength};
 ghost use Rattle.session.specs.Suites.{suiteNumber, suiteOf};
 ghost use Rattle.session.specs.Records.{lifetimeFits, blank, fieldsFit, Fits, Typed, encodeOf, laidOut, recordSuite, isRecord, IsRecord, readOf, decodeOf, writtenOf, bufferOf};

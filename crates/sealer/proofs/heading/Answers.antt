@@ -1,8 +1,8 @@
-use mathlib.Core.Path.{_≡_, refl, ap, sym, _∙_}
+use mathlib.Core.Path.{_≡_, ap, _∙_}
 use mathlib.Core.List.{List, [], _++_}
 use native.Mathlib.Omega.{arith}
 use Prim.Native.Nat.{ℕ, _+_}
-use lib.ListN.{length, take, drop}
+use lib.ListN.{drop}
 use lib.Seq.{paste}
 use Rattle.std.proofs.shelf.Lists.{drop-drop, drop-all, append-nil}
 use Rattle.bytes.specs.Fields.{bytesOf}

@@ -1,14 +1,14 @@
-use Prim.Native.Nat.{ℕ, _+_, _-_, _*_, _<_, _≤_}
-use mathlib.Core.Path.{_≡_, refl, ap, sym, _∙_}
+use Prim.Native.Nat.{ℕ, _+_, _-_, _<_, _≤_}
+use mathlib.Core.Path.{_≡_, ap, sym, _∙_}
 use mathlib.Core.List.{List, _++_}
-use mathlib.Core.Logic.{inl, inr, ⊎-elim}
+use mathlib.Core.Logic.{⊎-elim}
 use native.Mathlib.Nat.{add-mul}
 use native.Mathlib.Omega.{arith}
 use lib.Bits.{bitXor}
 use lib.ListN.{length, getD, take, drop}
 use Rattle.std.proofs.shelf.Lists.{getD-take}
 use Rattle.std.proofs.shelf.Tests.{cases-lt}
-use Rattle.sealing.specs.Covering.{coveredAt, covered}
+use Rattle.sealing.specs.Covering.{covered}
 use Rattle.sealing.proofs.Covers.{covered-here, covered-filled}
 use Rattle.sealing.proofs.cover.Needs as need
 

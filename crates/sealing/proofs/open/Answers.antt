@@ -1,15 +1,13 @@
-use Prim.Native.Nat.{ℕ, _+_, _-_, _<_, _≤_}
+use Prim.Native.Nat.{ℕ, _+_, _-_}
 use mathlib.Core.Path.{_≡_, refl, ap, sym, _∙_}
-use mathlib.Core.Bool.{Bool, true, false}
+use mathlib.Core.Bool.{true, false}
 use mathlib.Core.List.{List, _++_}
 use native.Mathlib.Omega.{arith}
 use lib.ListN.{length, take, drop}
 use Rattle.std.proofs.shelf.Lists.{length-replicate, length-take-le, take-rest}
 use Rattle.std.proofs.shelf.Tests.{false≢true}
 use Rattle.bytes.specs.Buffers.{filled}
-use Rattle.sealer.specs.Limits.{plainLimit}
-use Rattle.sealer.specs.Outcomes.{NoPlain}
-use Rattle.sealing.specs.Covering.{covered, sealingOf}
+use Rattle.sealing.specs.Covering.{covered}
 use Rattle.sealing.proofs.Covers.{covered-long}
 use Rattle.sealing.proofs.Opens.{covered-zeros, too-short, too-long, other-tag, same-tag}
 use Rattle.sealing.proofs.open.Needs as need

@@ -1,13 +1,13 @@
-use Prim.Native.Nat.{ℕ, _+_, _-_, _<_, _≤_}
+use Prim.Native.Nat.{ℕ, _+_, _-_}
 use mathlib.Core.Path.{_≡_, refl, ap, sym, _∙_}
-use mathlib.Core.List.{List, _++_}
+use mathlib.Core.List.{List}
 use native.Mathlib.Omega.{arith}
-use lib.ListN.{length, take, drop}
+use lib.ListN.{length, take}
 use lib.Seq.{paste}
 use Rattle.std.proofs.shelf.Lists.{length-replicate, take-at}
 use Rattle.std.proofs.shelf.Parts.{putMid-paste}
 use Rattle.bytes.specs.Buffers.{zeros, filled}
-use Rattle.sealing.specs.Covering.{covered, sealingOf}
+use Rattle.sealing.specs.Covering.{covered}
 use Rattle.sealing.proofs.Covers.{covered-long}
 use Rattle.sealing.proofs.Opens.{covered-zeros, sealed-parts}
 use Rattle.sealing.proofs.seal.Needs as need

@@ -1,13 +1,11 @@
-use borrow.Author.Needs.{needs}
-use mathlib.Core.Path.{_≡_, refl, sym, ap, _∙_}
-use mathlib.Core.Bool.{Bool, true, false, _&&_}
+use mathlib.Core.Path.{_≡_, sym, ap, _∙_}
+use mathlib.Core.Bool.{true}
 use mathlib.Core.List.{List}
-use mathlib.Core.Logic.{⊎-elim}
 use native.Mathlib.Omega.{arith}
-use Prim.Native.Nat.{ℕ, _<_, _+_}
-use lib.Dec.{ltb, leb, eqb}
+use Prim.Native.Nat.{ℕ}
+use lib.Dec.{ltb, leb}
 use lib.ListN.{length, take, drop, getD}
-use Rattle.std.proofs.shelf.Tests.{lt-ltb, le-leb, lt-leb, and-left, and-right}
+use Rattle.std.proofs.shelf.Tests.{lt-ltb, le-leb}
 use Rattle.bytes.specs.Fields.{numberOf}
 use Rattle.session.specs.Limits.{nameAt, nameLimit}
 use Rattle.session.specs.Records.{laidOut, lifetimeFits}

@@ -1,15 +1,13 @@
 use borrow.Author.Needs.{needs}
-use mathlib.Core.Path.{_≡_, refl, sym, ap, _∙_}
-use mathlib.Core.List.{List, _++_, []}
+use mathlib.Core.Path.{_≡_, refl, ap, _∙_}
+use mathlib.Core.List.{List, []}
 use native.Mathlib.Omega.{arith}
-use Prim.Native.Nat.{ℕ, _<_, _+_, _-_, _≤_}
+use Prim.Native.Nat.{ℕ, _+_, _-_, _≤_}
 use lib.ListN.{length, take, drop, getD}
-use lib.Seq.{paste}
 use Rattle.std.proofs.shelf.Lists.{length-drop, length-take, take-rest}
-use Rattle.bytes.specs.Buffers.{zeros, filled}
-use Rattle.session.specs.Limits.{nameAt, nameLimit}
+use Rattle.bytes.specs.Buffers.{filled}
 use Rattle.session.proofs.Rows.{filled-next}
-use Rattle.session.proofs.Laid.{Laid, suite-laid}
+use Rattle.session.proofs.Laid.{suite-laid}
 use Rattle.session.proofs.Trip.{read-made}
 use Rattle.session.proofs.state_of.Needs as need
 

@@ -1,8 +1,5 @@
-use Prim.Native.Nat.{ℕ, _+_}
-use mathlib.Core.Path.{_≡_, ap, _∙_}
-use mathlib.Core.List.{List}
+use mathlib.Core.Path.{_∙_}
 use native.Mathlib.Omega.{arith}
-use lib.ListN.{length, take}
 use Rattle.std.proofs.shelf.Lists.{take-all}
 use Rattle.chachaseal.specs.Meaning.{streamBlock}
 use Rattle.chachaseal.proofs.ChaChaScheme.block.Needs as need

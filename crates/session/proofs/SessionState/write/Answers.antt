@@ -1,10 +1,8 @@
 use mathlib.Core.Path.{_≡_, refl, sym, ap, _∙_}
-use mathlib.Core.Bool.{Bool, true, false}
-use mathlib.Core.List.{List}
+use mathlib.Core.Bool.{true}
 use native.Mathlib.Omega.{arith}
-use Prim.Native.Nat.{ℕ, _<_, _≤_, _+_, _-_, _^_}
-use lib.Dec.{ltb}
-use lib.ListN.{length, set, take, drop}
+use Prim.Native.Nat.{ℕ, _≤_, _+_, _-_}
+use lib.ListN.{length}
 use lib.Seq.{paste}
 use Rattle.bytes.specs.Fields.{bytesOf}
 use Rattle.std.proofs.shelf.Lists.{length-replicate}
