@@ -14,10 +14,10 @@ use Rattle.std.specs.declared.option.Option.the-variants.{Some, None}
 use Rattle.std.specs.declared.result.Result.the-variants.{Ok, Err}
 use Rattle.device.specs.declared.DeviceFault.{DeviceFault}
 use Rattle.device.specs.Effects.{Slot, Slots, Answer, Tearing, torn, blank}
-use Rattle.journal.specs.Layout.{mostSlots, markIn, copyIn, placesIn, pendingIn, view, shown, delivered, clearedOf, cleared}
+use Rattle.journal.specs.Layout.{mostSlots, markIn, copyIn, placesIn, unusedIn, pendingIn, view, shown, delivered, clearedOf, cleared}
 use Rattle.journal.specs.Steps.{Clearing}
 use Rattle.journal.proofs.Marks.{torn-clear}
-use Rattle.journal.proofs.Views.{length-places, length-shown, view-none, view-some, mark-places, mark-shown, slot-places, slot-kept, Failed, failed}
+use Rattle.journal.proofs.Views.{length-places, length-shown, view-none, view-some, mark-places, mark-shown, slot-places, slot-kept, Failed, failed, used, failed-unused}
 
 on-off : (p : Bool) → p ≡ true → p ≡ false → ⊥
 on-off p a b = both-ways p b a
@@ -33,6 +33,7 @@ record Delivered (s u : Slots) : Type 0 where
   pub places : placesIn u ≡ shown s
   pub same : shown u ≡ shown s
   pub long : length u ≡ length s
+  pub unused : unusedIn u ≡ unusedIn s
 
 module _ (s : Slots) (i : ℕ) (is : pendingIn (markIn s) ≡ Some i) (some : 2 < length s) where
   was : shown s ≡ set (placesIn s) i (copyIn s)
@@ -45,10 +46,11 @@ module _ (s : Slots) (i : ℕ) (is : pendingIn (markIn s) ≡ Some i) (some : 2 
         places = slot-places s i (copyIn s) low ∙ sym was;
         same = slot-kept s i (copyIn s) low is;
         long = length-set s (i + 2) (copyIn s);
+        unused = used s (i + 2) (copyIn s) (omega arith);
       }
 
   nowhere : length (placesIn s) ≤ i → Delivered s s
-  nowhere h = record { places = sym (was ∙ set-out (placesIn s) i (copyIn s) h); same = refl; long = refl }
+  nowhere h = record { places = sym (was ∙ set-out (placesIn s) i (copyIn s) h); same = refl; long = refl; unused = refl }
 
   all-delivered : Delivered s (delivered i s)
   all-delivered =
@@ -67,6 +69,7 @@ module _ (s : Slots) (i : ℕ) (is : pendingIn (markIn s) ≡ Some i) (some : 2 
           | inr k ↦ ap shown (k .1 .1) ∙ slot-kept s i _ low is
         ],
         λ off. absurd (on-off on was-on off),
+        failed-unused f (omega arith),
       )
 
   -- the mark's way to zeros, done or cut
@@ -86,6 +89,7 @@ module _ (s : Slots) (i : ℕ) (is : pendingIn (markIn s) ≡ Some i) (some : 2 
           ]
         ],
         λ off. absurd (on-off on was-on off),
+        failed-unused f (omega arith) ∙ h .unused,
       )
 
 -- what clearing leaves shows the same slots, and its copy stands for none
@@ -93,9 +97,10 @@ pub record Settled (s u : Slots) : Type 0 where
   pub same : shown u ≡ shown s
   pub none : pendingIn (markIn u) ≡ None
   pub long : length u ≡ length s
+  pub unused : unusedIn u ≡ unusedIn s
 
 settled-of : (s : Slots) (o : Option ℕ) → pendingIn (markIn s) ≡ o → 2 < length s → Settled s (clearedOf o s)
-settled-of s None e some = record { same = refl; none = e; long = refl }
+settled-of s None e some = record { same = refl; none = e; long = refl; unused = refl }
 settled-of s (Some i) e some =
     let u : Slots = delivered i s in
     let h = all-delivered s i e some in
@@ -104,6 +109,7 @@ settled-of s (Some i) e some =
       same = mark-shown u blank room ∙ view-none _ _ _ refl ∙ h .places;
       none = ap pendingIn (getD-set-same u 0 blank [] room);
       long = length-set u 0 blank ∙ h .long;
+      unused = used u 0 blank (omega arith) ∙ h .unused;
     }
 
 pub settled : (s : Slots) → 2 < length s → Settled s (cleared s)

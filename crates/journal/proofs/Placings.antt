@@ -11,10 +11,10 @@ use Rattle.std.specs.declared.option.Option.the-variants.{Some, None}
 use Rattle.std.specs.declared.result.Result.the-variants.{Ok, Err}
 use Rattle.device.specs.declared.DeviceFault.{DeviceFault}
 use Rattle.device.specs.Effects.{Slot, Slots, Answer, Tearing, torn, blank}
-use Rattle.journal.specs.Layout.{mostSlots, markIn, copyIn, placesIn, markOf, pendingIn, view, shown}
+use Rattle.journal.specs.Layout.{mostSlots, markIn, copyIn, placesIn, unusedIn, markOf, pendingIn, view, shown}
 use Rattle.journal.specs.Steps.{Placing}
 use Rattle.journal.proofs.Marks.{raised-target, torn-low, torn-raise, torn-clear}
-use Rattle.journal.proofs.Views.{view-none, view-some, copy-mark, copy-places, mark-places, mark-copy, mark-shown, slot-mark, slot-copy, slot-places, Failed, failed}
+use Rattle.journal.proofs.Views.{view-none, view-some, copy-mark, copy-places, mark-places, mark-copy, mark-shown, slot-mark, slot-copy, slot-places, Failed, failed, used, failed-unused}
 
 -- slots t that came of s: their mark, the slots in their own places, and the copy
 pub record Stands (s t : Slots) (m : Slot) (b : Slots) (c : Slot) : Type 0 where
@@ -22,6 +22,7 @@ pub record Stands (s t : Slots) (m : Slot) (b : Slots) (c : Slot) : Type 0 where
   pub places : placesIn t ≡ b
   pub copy : copyIn t ≡ c
   pub long : length t ≡ length s
+  pub unused : unusedIn t ≡ unusedIn s
 
 shows : {s t : Slots} {m : Slot} {b : Slots} {c : Slot} → Stands s t m b c → shown t ≡ view (pendingIn m) b c
 shows h = let a = h .mark in let b = h .places in let d = h .copy in cc
@@ -33,6 +34,7 @@ marked {s} {u} h t x e some = record {
   places = ap placesIn e ∙ mark-places u x ∙ h .places;
   copy = ap copyIn e ∙ mark-copy u x ∙ h .copy;
   long = ap length e ∙ length-set u 0 x ∙ h .long;
+  unused = ap unusedIn e ∙ used u 0 x (omega arith) ∙ h .unused;
 }
 
 -- the bytes of a mark past its flag
@@ -56,6 +58,7 @@ module _ (s : Slots) (i : ℕ) (b : Slot) (within : i + 2 < length s) (small : i
     places = ap placesIn e ∙ copy-places s b;
     copy = ap copyIn e ∙ getD-set-same s 1 b [] (omega arith);
     long = ap length e ∙ length-set s 1 b;
+    unused = ap unusedIn e ∙ used s 1 b (omega arith);
   }
 
   pub targeted : (u t : Slots) → Stands s u (markIn s) (placesIn s) b → t ≡ set u 0 (markOf 0 i) → Stands s t (markOf 0 i) (placesIn s) b
@@ -70,6 +73,7 @@ module _ (s : Slots) (i : ℕ) (b : Slot) (within : i + 2 < length s) (small : i
     places = ap placesIn e ∙ slot-places u i x small ∙ ap (λ y. set y i x) (h .places);
     copy = ap copyIn e ∙ slot-copy u i x ∙ h .copy;
     long = ap length e ∙ length-set u (i + 2) x ∙ h .long;
+    unused = ap unusedIn e ∙ used u (i + 2) x (omega arith) ∙ h .unused;
   }
 
   -- what is shown once a write of the mark has torn, and its copy stands for none
@@ -88,6 +92,7 @@ module _ (s : Slots) (i : ℕ) (b : Slot) (within : i + 2 < length s) (small : i
               let v : t ≡ set s 1 x = k .1 .1 in
               ap shown v ∙ view-none _ _ _ (ap pendingIn (copy-mark s x) ∙ none) ∙ copy-places s x ∙ sym at-first
         ]),
+        failed-unused f (omega arith),
       )
 
   pub cut-target : (p on : Bool) (u : Slots) (e : DeviceFault) (t : Slots) (on′ : Bool) → Stands s u (markIn s) (placesIn s) b → Tearing u p 0 (markOf 0 i) (Err e) t on′ → Placing s on i b (Err e) t on′
@@ -103,6 +108,7 @@ module _ (s : Slots) (i : ℕ) (b : Slot) (within : i + 2 < length s) (small : i
               let was : pendingIn (markIn u) ≡ None = ap pendingIn (h .mark) ∙ none in
               unraised u t (torn (k .1 .0) (markIn u) (markOf 0 i)) some (k .1 .1) (torn-low (k .1 .0) (rest i) (markIn u) was) ∙ h .places ∙ sym at-first
         ]),
+        failed-unused f (omega arith) ∙ h .unused,
       )
 
   pub cut-flag : (p on : Bool) (u : Slots) (e : DeviceFault) (t : Slots) (on′ : Bool) → Stands s u (markOf 0 i) (placesIn s) b → Tearing u p 0 (markOf 1 i) (Err e) t on′ → Placing s on i b (Err e) t on′
@@ -122,6 +128,7 @@ module _ (s : Slots) (i : ℕ) (b : Slot) (within : i + 2 < length s) (small : i
                 | inr j ↦ inr (shows (flagged u t h (x ∙ ap (set u 0) j)) ∙ raised)
               ]
         ],
+        failed-unused f (omega arith) ∙ h .unused,
       )
 
   pub cut-slot : (p on : Bool) (u : Slots) (e : DeviceFault) (t : Slots) (on′ : Bool) → Stands s u (markOf 1 i) (placesIn s) b → Tearing u p (i + 2) b (Err e) t on′ → Placing s on i b (Err e) t on′
@@ -133,6 +140,7 @@ module _ (s : Slots) (i : ℕ) (b : Slot) (within : i + 2 < length s) (small : i
           | inl k ↦ ap shown (k .0) ∙ shows h ∙ raised
           | inr k ↦ shows (stored u t _ h (k .1 .1)) ∙ under-mark _
         ]),
+        failed-unused f (omega arith) ∙ h .unused,
       )
 
   -- the last step, done or cut
@@ -152,6 +160,7 @@ module _ (s : Slots) (i : ℕ) (b : Slot) (within : i + 2 < length s) (small : i
             | inr j ↦ unraised u t (torn (k .1 .0) (markIn u) blank) some (k .1 .1) j ∙ new
           ]
         ]),
+        failed-unused f (omega arith) ∙ h .unused,
       )
 
 -- the slots below once all five steps are done

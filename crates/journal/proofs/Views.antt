@@ -15,7 +15,7 @@ use Rattle.std.specs.declared.result.Result.the-variants.{Ok, Err}
 use Rattle.device.specs.declared.DeviceFault.{DeviceFault}
 use Rattle.device.specs.declared.DeviceFault.the-variants.{NoSuchSlot, NoPower}
 use Rattle.device.specs.Effects.{Slot, Slots, Tearing, torn}
-use Rattle.journal.specs.Layout.{mostSlots, markIn, copyIn, placesIn, pendingIn, view, shown}
+use Rattle.journal.specs.Layout.{mostSlots, markIn, copyIn, placesIn, unusedIn, pendingIn, view, shown}
 
 -- the view
 
@@ -101,3 +101,10 @@ pub failed : (s : Slots) (on : Bool) (k : ℕ) (b : Slot) (e : DeviceFault) (t :
 failed s on k b NoSuchSlot t on′ h (inl r) = absurd (omega (arith, r .0))
 failed s on k b NoPower t on′ h (inl r) = record { off = refl; down = r .2 ∙ r .0 .1; left = inl (r .1, r .0 .1) }
 failed s on k b e t on′ h (inr r) = record { off = r .0; down = r .4; left = inr (r .2, (r .3 .0, r .3 .2)) }
+
+-- a write below to a place that the journal uses
+pub used : (s : Slots) (k : ℕ) (x : Slot) → k < 2 + mostSlots → unusedIn (set s k x) ≡ unusedIn s
+used s k x h = drop-set-lt (2 + mostSlots) s k x h
+
+pub failed-unused : {s : Slots} {on : Bool} {k : ℕ} {b : Slot} {e : DeviceFault} {t : Slots} {on′ : Bool} → Failed s on k b e t on′ → k < 2 + mostSlots → unusedIn t ≡ unusedIn s
+failed-unused {s} {k = k} f h = elim (f .left) [ inl r ↦ ap unusedIn (r .0) | inr r ↦ ap unusedIn (r .1 .1) ∙ used s k _ h ]

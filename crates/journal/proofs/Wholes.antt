@@ -14,7 +14,7 @@ use Rattle.std.specs.declared.result.Result.the-variants.{Ok, Err}
 use Rattle.device.specs.declared.DeviceFault.{DeviceFault}
 use Rattle.device.specs.declared.DeviceFault.the-variants.{NoSuchSlot, NoPower}
 use Rattle.device.specs.Effects.{Slot, Slots, Answer, Reading, Writing, Restarting, slotSize, blank}
-use Rattle.journal.specs.Layout.{mostSlots, markIn, copyIn, placesIn, pendingIn, view, shown, cleared, restored}
+use Rattle.journal.specs.Layout.{mostSlots, markIn, copyIn, placesIn, unusedIn, pendingIn, view, shown, cleared, restored}
 use Rattle.journal.specs.Steps.{Clearing, Placing, WritingBelow, RestartingBelow}
 use Rattle.journal.proofs.Views.{length-places, length-shown, view-none, view-some, view-other, place-at, copy-mark, copy-places, mark-shown, slot-places}
 use Rattle.journal.proofs.Clearings.{Settled, settled}
@@ -73,19 +73,9 @@ written-shown u i b small some none =
 never : NoSuchSlot ≡ NoPower → ⊥
 never e = let z : _≡_ {A = ℕ} 0 1 = cc in omega arith
 
--- a call that clearing ended: it found the power off, or was cut
-by-power : (s : Slots) (i : ℕ) (b : Slot) → i < length (shown s) → (on : Bool) (u : Slots) (p : Bool) → Clearing s on (Err NoPower) u p → Writing (shown s) on i b (Err NoPower) (shown u) p
-by-power s i b h true u p d = inr (refl, h, refl, inl (d .2), d .1)
-by-power s i b h false u p d = inl ((h, refl), d .2, d .1)
-
 module _ (s : Slots) (on : Bool) (i : ℕ) (b : Slot) (within : i < length (shown s)) where
   some : 2 < length s
   some = omega (arith, length-shown s)
-
-  -- clearing was cut
-  pub write-uncleared : (e : DeviceFault) (u : Slots) (p : Bool) → Clearing s on (Err e) u p → Writing (shown s) on i b (Err e) (shown u) p × WritingBelow s on i b (Err e) u
-  write-uncleared NoSuchSlot u p d = absurd (never (d .0))
-  write-uncleared NoPower u p d = (by-power s i b within on u p d, λ h. d .3 (h .1))
 
   -- clearing was done
   pub write-cleared : (u : Slots) (p : Bool) (a : Answer) (t : Slots) (on′ : Bool) → Clearing s on (Ok tt) u p → Placing u p i b a t on′ → Writing (shown s) on i b a (shown t) on′ × WritingBelow s on i b a t
@@ -96,7 +86,7 @@ module _ (s : Slots) (on : Bool) (i : ℕ) (b : Slot) (within : i < length (show
   write-cleared u p (Err NoSuchSlot) t on′ c d = absurd (never (d .0))
   write-cleared u p (Err NoPower) t on′ c d =
       let h = subst (λ (y : Slots). Settled s y) (sym (c .2)) (settled s some) in
-      (inr (refl, within, c .0, elim (d .2) [ inl k ↦ inl (k ∙ h .same) | inr k ↦ inr (k ∙ ap (λ y. set y i b) (h .same)) ], d .1), λ k. absurd (both-ways on (k .1) (c .0)))
+      (inr (refl, within, c .0, elim (d .2) [ inl k ↦ inl (k ∙ h .same) | inr k ↦ inr (k ∙ ap (λ y. set y i b) (h .same)) ], d .1), (λ k. absurd (both-ways on (k .1) (c .0)), d .3 ∙ h .unused))
 
 -- restarting
 
@@ -110,4 +100,4 @@ pub restart-cleared : (s u : Slots) (p : Bool) (a : Answer) (t : Slots) (on′ :
 restart-cleared s u p (Ok _) t on′ e h d =
     let k : t ≡ cleared s = d .2 ∙ ap cleared e in
     ((ap shown k ∙ settled s (omega (arith, length-shown s)) .same, d .1), k ∙ sym (restored-some s h))
-restart-cleared s u p (Err x) t on′ e h d = ((d .0, d .2 ∙ ap shown e, d .1), tt)
+restart-cleared s u p (Err x) t on′ e h d = ((d .0, d .2 ∙ ap shown e, d .1), (λ z. absurd (omega arith), d .4 ∙ ap unusedIn e))

@@ -22,6 +22,10 @@ copyIn s = getD s 1 []
 abbrev pub placesIn : Slots → Slots
 placesIn s = take mostSlots (drop 2 s)
 
+-- the slots below past the journal's last, which it never uses
+abbrev pub unusedIn : Slots → Slots
+unusedIn s = drop (2 + mostSlots) s
+
 -- a mark with a flag and a target: one byte, then two, then zeros
 abbrev pub markOf : ℕ → ℕ → Slot
 markOf flag target = flag ∷ target / 256 ∷ target % 256 ∷ replicate 61 0
