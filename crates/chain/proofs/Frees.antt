@@ -11,10 +11,10 @@ use Rattle.std.proofs.shelf.Tests.{cases-bool, cases-eq, both-ways}
 use Rattle.bytes.specs.Buffers.{zeros}
 use Rattle.marks.specs.Rows.{roomOf, isMarked, withMark, listed, unmarked}
 use Rattle.marks.proofs.Laws.{mark-laws}
-use Rattle.tree.specs.Cover.{In}
+use Rattle.tree.specs.Cover.{In, Distinct}
 use Rattle.chain.specs.Reading.{Link, slotsOf}
 use Rattle.chain.specs.Listing.{markedAll}
-use Rattle.chain.specs.Sound.{freeIn, FreeAre}
+use Rattle.chain.specs.Sound.{freeIn, FreeAre, FreeCount}
 
 -- ---- marks along a chain
 module _ (count i : ℕ) where
@@ -75,3 +75,54 @@ free-are m count from xs i r f =
           (u .0, omega (arith, u .0, u .1), λ n. both-ways _ (u .2) (marked-in count i xs row long f n)),
       λ t. in-unmarked (count - from) (markedAll row xs) from i (t .0) (omega (arith, t .0, t .1)) (unmarked-off count i xs row (t .2) (mark-laws .none m i)),
     )
+
+-- ---- how many there are
+same-unmarked : (n from : ℕ) (row other : List ℕ) → ((k : ℕ) → from ≤ k → isMarked row k ≡ isMarked other k) → unmarked row from n ≡ unmarked other from n
+same-unmarked zero from row other f = refl
+same-unmarked (suc n) from row other f =
+    let e : isMarked row from ≡ isMarked other from = f from (omega arith) in
+    let r = same-unmarked n (suc from) row other (λ k l. f k (omega arith)) in
+    ap (λ (b : Bool). listed b from (unmarked row (suc from) n)) e ∙ ap (listed (isMarked other from) from) r
+
+-- two lists of which one is longer by one stay so with one more slot before them
+one-less : (b : Bool) (from : ℕ) (xs ys : List ℕ) → length xs + 1 ≡ length ys → length (listed b from xs) + 1 ≡ length (listed b from ys)
+one-less true from xs ys e = e
+one-less false from xs ys e = omega arith
+
+-- a slot that is marked is one free slot less
+less-unmarked : (n from count i : ℕ) (row : List ℕ) → roomOf count ≤ length row → i < count → from ≤ i → i < from + n → isMarked row i ≡ false →
+    length (unmarked (withMark row i) from n) + 1 ≡ length (unmarked row from n)
+less-unmarked zero from count i row r c l u e = absurd (omega arith)
+less-unmarked (suc n) from count i row r c l u e = ⊎-elim
+    (λ (q : i ≡ from).
+    let t : isMarked (withMark row i) from ≡ true = subst (λ (k : ℕ). isMarked (withMark row i) k ≡ true) q (mark-laws .same row count i r c) in
+    let f : isMarked row from ≡ false = subst (λ (k : ℕ). isMarked row k ≡ false) q e in
+    let s : unmarked (withMark row i) (suc from) n ≡ unmarked row (suc from) n =
+    same-unmarked n (suc from) (withMark row i) row (λ k h. mark-laws .other row i k (λ w. omega arith)) in
+    rw (t, f) (omega (arith, ap length s)))
+    (λ (q : i ≡ from → ⊥).
+    let o : isMarked (withMark row i) from ≡ isMarked row from = mark-laws .other row i from (λ w. q (sym w)) in
+    let h = less-unmarked n (suc from) count i row r c (omega arith) (omega arith) e in
+    rw o (one-less (isMarked row from) from (unmarked (withMark row i) (suc from) n) (unmarked row (suc from) n) h))
+    (cases-eq i from)
+
+all-unmarked : (n from m : ℕ) → length (unmarked (zeros m) from n) ≡ n
+all-unmarked zero from m = refl
+all-unmarked (suc n) from m = let f = mark-laws .none m from in rw f (ap suc (all-unmarked n (suc from) m))
+
+sum-unmarked : (count : ℕ) (xs : List Link) (row : List ℕ) → roomOf count ≤ length row → ((j : ℕ) → In j (slotsOf xs) → (0 < j) × (j < count)) → Distinct (slotsOf xs) →
+    ((j : ℕ) → In j (slotsOf xs) → isMarked row j ≡ false) → length (unmarked (markedAll row xs) 1 (count - 1)) + length xs ≡ length (unmarked row 1 (count - 1))
+sum-unmarked count [] row r f d e = omega arith
+sum-unmarked count (x ∷ xs) row r f d e =
+    let w : List ℕ = withMark row (x .slot) in
+    let long : roomOf count ≤ length w = subst (λ (k : ℕ). roomOf count ≤ k) (sym (mark-laws .long row (x .slot))) r in
+    let h = sum-unmarked count xs w long (λ j m. f j (inr m)) (d .1)
+    (λ j m. mark-laws .other row (x .slot) j (λ q. d .0 (subst (λ (k : ℕ). In k (slotsOf xs)) q m)) ∙ e j (inr m)) in
+    let p = f (x .slot) (inl refl) in
+    let l = less-unmarked (count - 1) 1 count (x .slot) row r (p .1) (omega (arith, p .0)) (omega (arith, p .0, p .1)) (e (x .slot) (inl refl)) in
+    omega arith
+
+pub free-count : FreeCount
+free-count m count xs r f d =
+    let long : roomOf count ≤ length (zeros m) = subst (λ (k : ℕ). roomOf count ≤ k) (sym (length-replicate m 0)) r in
+    sum-unmarked count xs (zeros m) long f d (λ j i. mark-laws .none m j) ∙ all-unmarked (count - 1) 1 m

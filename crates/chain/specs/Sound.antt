@@ -1,5 +1,5 @@
 -- What a file that is read is, in the words of the tree; and a file that is laid out as the cover of the spent numbers is read as that.
-use Prim.Native.Nat.{ℕ, _-_, _^_, _<_, _≤_}
+use Prim.Native.Nat.{ℕ, _+_, _-_, _^_, _<_, _≤_}
 use mathlib.Core.Path.{_≡_}
 use mathlib.Core.Bool.{true}
 use mathlib.Core.List.{List, [], _∷_, _++_, map}
@@ -115,3 +115,8 @@ freeIn from count row = unmarked row from (count - from)
 abbrev pub FreeAre : Type 0
 FreeAre = (m count from : ℕ) (xs : List Link) (i : ℕ) → roomOf count ≤ m → ((j : ℕ) → In j (slotsOf xs) → j < count) →
     In i (freeIn from count (markedAll (zeros m) xs)) ↔ ((from ≤ i) × (i < count) × (In i (slotsOf xs) → ⊥))
+
+-- there are as many as there are slots other than 0, less the records of the chain
+abbrev pub FreeCount : Type 0
+FreeCount = (m count : ℕ) (xs : List Link) → roomOf count ≤ m → ((j : ℕ) → In j (slotsOf xs) → (0 < j) × (j < count)) → Distinct (slotsOf xs) →
+    length (freeIn 1 count (markedAll (zeros m) xs)) + length xs ≡ count - 1

@@ -17,7 +17,7 @@ ghost use Rattle.chain.specs.Reading.{Link, Walk.walked, endOf, mayFollow, wal
 ghost use Rattle.chain.specs.Listing.{counted, tallyOf, noneYet, markedAll};
 ghost use Rattle.chain.specs.Outcome.{Reading.read, chainOf, readingOf, answerOf, marksOf, Fetching, headRead, recordRead};
 ghost use Rattle.layout.specs.declared.Head.{Head};
-ghost use Rattle.chain.specs.Sound.{FileLaws, FreeAre, freeIn};
+ghost use Rattle.chain.specs.Sound.{FileLaws, FreeAre, FreeCount, freeIn};
 ghost use Rattle.chain.specs.Steps.{Preceding};
 ghost use Rattle.marks.specs.Rows.{firstOf};
 use bytes::Wiped;
@@ -326,6 +326,7 @@ pub fn read_file<D: ReadSlots>(
 pub fn count_free(marks: &[u8], count: usize) -> usize
     ensures is { λ r. ⌜ r ≡ length (freeIn 1 count (now (marks .entry))) ⌝ }
     ensures free { λ _. ⌜ FreeAre ⌝ }
+    ensures sum { λ _. ⌜ FreeCount ⌝ }
 {
     count_unmarked(marks, 1, count)
 }

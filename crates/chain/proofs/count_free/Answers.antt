@@ -1,5 +1,5 @@
-use Rattle.chain.proofs.Frees.{free-are}
+use Rattle.chain.proofs.Frees.{free-are, free-count}
 use Rattle.chain.proofs.count_free.Needs as need
 
 pub returns : need.returns
-returns c = record { is = c .count-unmarked .ensures; free = free-are }
+returns c = record { is = c .count-unmarked .ensures; free = free-are; sum = free-count }
