@@ -1,23 +1,22 @@
 -- Clearing changes nothing that is shown, wherever it is cut.
 use mathlib.Core.Path.{_≡_, refl, sym, ap, _∙_, subst}
 use mathlib.Core.Bool.{Bool, true, false, cond}
-use mathlib.Core.List.{List, [], _∷_, _++_}
+use mathlib.Core.List.{[]}
 use mathlib.Core.Logic.{_⊎_, inl, inr, ⊎-elim}
-use Prim.Native.Nat.{ℕ, _+_, _-_, _<_, _≤_, min}
+use Prim.Native.Nat.{ℕ, _+_, _-_, _<_, _≤_}
 use native.Mathlib.Omega.{arith}
-use lib.Dec.{ltb}
-use lib.ListN.{length, getD, set, replicate, length-set}
+use lib.ListN.{length, set, replicate, length-set}
 use lib.Seq.{getD-set-same, set-out}
 use Rattle.std.proofs.shelf.Tests.{cases-lt, lt-ltb, le-ltb, both-ways}
 use Rattle.std.specs.declared.option.Option.{Option}
 use Rattle.std.specs.declared.option.Option.the-variants.{Some, None}
 use Rattle.std.specs.declared.result.Result.the-variants.{Ok, Err}
 use Rattle.device.specs.declared.DeviceFault.{DeviceFault}
-use Rattle.device.specs.Effects.{Slot, Slots, Answer, Tearing, torn, blank}
-use Rattle.journal.specs.Layout.{mostSlots, markIn, copyIn, placesIn, unusedIn, pendingIn, view, shown, delivered, clearedOf, cleared}
+use Rattle.device.specs.Effects.{Slot, Slots, Answer, Tearing, blank}
+use Rattle.journal.specs.Layout.{mostSlots, markIn, copyIn, placesIn, unusedIn, pendingIn, shown, delivered, clearedOf, cleared}
 use Rattle.journal.specs.Steps.{Clearing}
 use Rattle.journal.proofs.Marks.{torn-clear}
-use Rattle.journal.proofs.Views.{length-places, length-shown, view-none, view-some, mark-places, mark-shown, slot-places, slot-kept, Failed, failed, used, failed-unused}
+use Rattle.journal.proofs.Views.{length-places, view-none, view-some, mark-shown, slot-places, slot-kept, failed, used, failed-unused}
 
 on-off : (p : Bool) → p ≡ true → p ≡ false → ⊥
 on-off p a b = both-ways p b a

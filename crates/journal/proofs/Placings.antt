@@ -1,20 +1,20 @@
 -- A write in five steps is whole, wherever it is cut.
-use mathlib.Core.Path.{_≡_, refl, sym, ap, _∙_, subst}
-use mathlib.Core.Bool.{Bool, true, false}
-use mathlib.Core.List.{List, [], _∷_, _++_}
-use mathlib.Core.Logic.{_⊎_, inl, inr}
+use mathlib.Core.Path.{_≡_, refl, sym, ap, _∙_}
+use mathlib.Core.Bool.{Bool, true}
+use mathlib.Core.List.{List, [], _∷_}
+use mathlib.Core.Logic.{inl, inr}
 use Prim.Native.Nat.{ℕ, _+_, _/_, _%_, _<_}
 use native.Mathlib.Omega.{arith}
-use lib.ListN.{length, getD, set, replicate, length-set}
-use lib.Seq.{getD-set-same, getD-set-other, set-set, set-comm}
-use Rattle.std.specs.declared.option.Option.the-variants.{Some, None}
+use lib.ListN.{length, set, replicate, length-set}
+use lib.Seq.{getD-set-same, set-set, set-comm}
+use Rattle.std.specs.declared.option.Option.the-variants.{None}
 use Rattle.std.specs.declared.result.Result.the-variants.{Ok, Err}
 use Rattle.device.specs.declared.DeviceFault.{DeviceFault}
 use Rattle.device.specs.Effects.{Slot, Slots, Answer, Tearing, torn, blank}
 use Rattle.journal.specs.Layout.{mostSlots, markIn, copyIn, placesIn, unusedIn, markOf, pendingIn, view, shown}
 use Rattle.journal.specs.Steps.{Placing}
 use Rattle.journal.proofs.Marks.{raised-target, torn-low, torn-raise, torn-clear}
-use Rattle.journal.proofs.Views.{view-none, view-some, copy-mark, copy-places, mark-places, mark-copy, mark-shown, slot-mark, slot-copy, slot-places, Failed, failed, used, failed-unused}
+use Rattle.journal.proofs.Views.{view-none, view-some, copy-mark, copy-places, mark-places, mark-copy, mark-shown, slot-mark, slot-copy, slot-places, failed, used, failed-unused}
 
 -- slots t that came of s: their mark, the slots in their own places, and the copy
 pub record Stands (s t : Slots) (m : Slot) (b : Slots) (c : Slot) : Type 0 where

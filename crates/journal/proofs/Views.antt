@@ -1,17 +1,17 @@
 -- What each write below does to the slots that a journal shows.
 use mathlib.Core.Path.{_≡_, refl, sym, ap, _∙_}
 use mathlib.Core.Bool.{Bool, true, false}
-use mathlib.Core.List.{List, [], _∷_}
+use mathlib.Core.List.{[]}
 use mathlib.Core.Logic.{_⊎_, inl, inr}
-use Prim.Native.Nat.{ℕ, _+_, _-_, _<_, _≤_, min}
+use Prim.Native.Nat.{ℕ, _+_, _-_, _<_, min}
 use native.Mathlib.Nat.{add-comm}
 use native.Mathlib.Omega.{arith}
 use lib.ListN.{length, getD, set, take, drop, length-set, length-take, length-drop}
-use lib.Seq.{getD-set-same, getD-set-other, getD-take, getD-drop, set-set, set-out, drop-set-lt, take-set-lt}
+use lib.Seq.{getD-set-same, getD-set-other, getD-take, getD-drop, set-set, drop-set-lt, take-set-lt}
 use Rattle.std.proofs.shelf.Lists.{drop-set-add}
 use Rattle.std.specs.declared.option.Option.{Option}
 use Rattle.std.specs.declared.option.Option.the-variants.{Some, None}
-use Rattle.std.specs.declared.result.Result.the-variants.{Ok, Err}
+use Rattle.std.specs.declared.result.Result.the-variants.{Err}
 use Rattle.device.specs.declared.DeviceFault.{DeviceFault}
 use Rattle.device.specs.declared.DeviceFault.the-variants.{NoSuchSlot, NoPower}
 use Rattle.device.specs.Effects.{Slot, Slots, Tearing, torn}

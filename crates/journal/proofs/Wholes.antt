@@ -1,9 +1,9 @@
 -- The journal's calls mean what a device of whole writes means.
 use mathlib.Core.Path.{_≡_, refl, sym, ap, _∙_, subst}
-use mathlib.Core.Bool.{Bool, true, false, cond}
-use mathlib.Core.List.{List, [], _∷_}
+use mathlib.Core.Bool.{Bool, cond}
+use mathlib.Core.List.{[]}
 use mathlib.Core.Logic.{_⊎_, inl, inr, ⊎-elim}
-use Prim.Native.Nat.{ℕ, _+_, _-_, _<_, _≤_, min}
+use Prim.Native.Nat.{ℕ, _+_, _-_, _<_}
 use native.Mathlib.Omega.{arith}
 use lib.ListN.{length, getD, set, length-set}
 use lib.Seq.{getD-set-same, getD-set-other}
@@ -11,12 +11,11 @@ use Rattle.std.proofs.shelf.Tests.{cases-eq, lt-ltb, le-ltb, both-ways}
 use Rattle.std.specs.declared.option.Option.{Option}
 use Rattle.std.specs.declared.option.Option.the-variants.{Some, None}
 use Rattle.std.specs.declared.result.Result.the-variants.{Ok, Err}
-use Rattle.device.specs.declared.DeviceFault.{DeviceFault}
 use Rattle.device.specs.declared.DeviceFault.the-variants.{NoSuchSlot, NoPower}
-use Rattle.device.specs.Effects.{Slot, Slots, Answer, Reading, Writing, Restarting, slotSize, blank}
+use Rattle.device.specs.Effects.{Slot, Slots, Answer, Reading, Writing, Restarting, blank}
 use Rattle.journal.specs.Layout.{mostSlots, markIn, copyIn, placesIn, unusedIn, pendingIn, view, shown, cleared, restored}
 use Rattle.journal.specs.Steps.{Clearing, Placing, WritingBelow, RestartingBelow}
-use Rattle.journal.proofs.Views.{length-places, length-shown, view-none, view-some, view-other, place-at, copy-mark, copy-places, mark-shown, slot-places}
+use Rattle.journal.proofs.Views.{length-places, length-shown, view-none, view-some, view-other, place-at, copy-places, mark-shown, slot-places}
 use Rattle.journal.proofs.Clearings.{Settled, settled}
 
 -- every slot that is shown has as many bytes as those below

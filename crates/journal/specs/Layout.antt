@@ -1,6 +1,6 @@
 -- How a journal lies in the slots below it, and which slots it shows: slot 0 below is the mark, slot 1 the copy, slot i + 2 holds slot i.
 use mathlib.Core.Bool.{cond}
-use mathlib.Core.List.{List, [], _∷_}
+use mathlib.Core.List.{[], _∷_}
 use Prim.Native.Nat.{ℕ, zero, suc, _+_, _*_, _/_, _%_}
 use lib.Dec.{ltb}
 use lib.ListN.{length, getD, set, take, drop, replicate}

@@ -4,13 +4,11 @@
 //! target. Where the flag is 1 the copy stands for the target; a write raises the flag only once copy and target are in place, and
 //! lowers it once the slot itself is written. A tear of any one of these writes leaves the old slot or the new one.
 ghost use mathlib.Core.Path.{_≡_};
-ghost use mathlib.Core.Bool.{Bool};
-ghost use mathlib.Core.List.{List, []};
-ghost use Prim.Native.Nat.{ℕ, _<_, _≤_, _+_};
-ghost use lib.ListN.{length, getD};
+ghost use Prim.Native.Nat.{_<_, _≤_, _+_};
+ghost use lib.ListN.{length};
 ghost use Rattle.std.specs.Orderings.{Decides};
 ghost use Rattle.std.specs.declared.option.Option.the-variants.{Some, None};
-ghost use Rattle.device.specs.Effects.{Reading, Writing, Restarting, blank};
+ghost use Rattle.device.specs.Effects.{Writing, Restarting, blank};
 ghost use Rattle.journal.specs.Layout.{shown, mostSlots, markIn, pendingIn};
 ghost use Rattle.journal.specs.Steps.{Clearing, Placing, WritingBelow, RestartingBelow};
 use device::DeviceFault;
@@ -38,6 +36,7 @@ pub struct Journal<D> {
 }
 
 impl<D> Journal<D> {
+    /// A journal over a device, with what that holds.
     pub fn new(below: D) -> Journal<D>
         ensures { λ r. ⌜ r .below ≡ below ⌝ ∗ ⌜ r .pad ≡ blank ⌝ }
     {
@@ -47,6 +46,7 @@ impl<D> Journal<D> {
         }
     }
 
+    /// The device below.
     pub fn into_below(self) -> D
         ensures { λ r. ⌜ r ≡ self .below ⌝ }
     {

@@ -1,12 +1,12 @@
 -- A slot that is changed within its sector, and the sector put back whole.
-use mathlib.Core.Path.{_≡_, refl, sym, ap, _∙_}
-use mathlib.Core.List.{List, [], _++_, append-assoc}
-use Prim.Native.Nat.{ℕ, _+_, _-_, _*_, _/_, _<_, _≤_, min}
+use mathlib.Core.Path.{_≡_, sym, ap, _∙_}
+use mathlib.Core.List.{List, _++_, append-assoc}
+use Prim.Native.Nat.{ℕ, _+_, _-_, _*_, _/_, _≤_}
 use native.Mathlib.Nat.{div-mul-le-self}
 use native.Mathlib.Omega.{arith}
 use lib.ListN.{length, take, drop}
 use lib.Seq.{paste, length-paste, take-add}
-use Rattle.std.proofs.shelf.Lists.{drop-drop, take-take, take-all, take-append-drop, drop-append-le, length-take, length-drop, length-append}
+use Rattle.std.proofs.shelf.Lists.{drop-drop, take-take, take-all, take-append-drop, drop-append-le, length-take, length-drop}
 use Rattle.device.specs.Effects.{slotSize}
 use Rattle.sectors.specs.Sectors.{sectorSize, sectorSlots}
 

@@ -7,7 +7,7 @@ ghost use lib.ListN.{length, replicate};
 ghost use lib.Seq.{paste};
 ghost use denote.Ref.{now};
 ghost use Rattle.std.specs.declared.option.Option.the-variants.{Some, None};
-ghost use Rattle.device.specs.Effects.{Reading, Tearing, Restarting, slotSize};
+ghost use Rattle.device.specs.Effects.{Tearing, Restarting, slotSize};
 ghost use Rattle.medium.specs.Appointed.{Struck, Restarted, partly};
 ghost use Rattle.sectors.specs.Sectors.{slotsBySector, sectorSize, sectorSlots};
 use device::DeviceFault;

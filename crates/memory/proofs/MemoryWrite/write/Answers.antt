@@ -2,15 +2,13 @@ use borrow.Author.Needs.{needs}
 use native.Mathlib.Omega.{arith}
 use native.Mathlib.Nat.{div-mul-le-self}
 use mathlib.Core.Path.{_≡_, refl, sym, ap, _∙_}
-use mathlib.Core.Bool.{false}
 use mathlib.Core.Logic.{_⊎_, inl, inr}
 use Prim.Native.Nat.{ℕ, zero, suc, _*_, _/_, _<_, _≤_}
 use lib.ListN.{length}
 use lib.Seq.{paste}
 use Rattle.std.specs.declared.result.Result.the-variants.{Ok, Err}
 use Rattle.device.specs.declared.DeviceFault.the-variants.{NoPower}
-use Rattle.device.specs.Effects.{slotSize, Slot, Answer}
-use Rattle.medium.specs.Appointed.{Struck}
+use Rattle.device.specs.Effects.{slotSize}
 use Rattle.medium.specs.Rows.{slotsOf}
 use Rattle.medium.proofs.Rows.{many, put-all, paste-none}
 use Rattle.medium.proofs.Meanings.{wholes}

@@ -1,8 +1,8 @@
 use borrow.Author.Needs.{needs}
 use native.Mathlib.Omega.{arith}
 use mathlib.Core.Path.{_≡_, refl, sym, ap, _∙_}
-use mathlib.Core.Logic.{_⊎_, inl, inr}
-use Prim.Native.Nat.{ℕ, _*_, _/_, _<_, _≤_}
+use mathlib.Core.Logic.{inr}
+use Prim.Native.Nat.{_*_, _/_, _<_}
 use lib.ListN.{length}
 use lib.Seq.{paste}
 use Rattle.std.specs.declared.result.Result.the-variants.{Ok, Err}
