@@ -6,7 +6,7 @@ use native.Mathlib.Omega.{arith}
 use lib.ListN.{length, drop, replicate}
 use Rattle.bytes.specs.Buffers.{zeros, filled}
 use Rattle.tree.specs.declared.Node.{Node}
-use Rattle.tree.specs.Nodes.{mostLevels, IsNode, Covers, Above}
+use Rattle.tree.specs.Nodes.{mostLevels, IsNode, Covers}
 use Rattle.tree.specs.Puncture.{siblingsOn}
 use Rattle.tree.specs.Values.{Expansion, way, follow, keyFrom, valueFrom, siblingValues}
 use Rattle.std.specs.Joined.{joined}

@@ -1,7 +1,8 @@
-use mathlib.Core.Path.{_≡_, refl, sym, ap, ap₂, subst, _∙_}
-use mathlib.Core.List.{List, [], _∷_, _++_, append-assoc, append-nil}
+-- How many nodes a cover has, and that only the set of spent numbers counts.
+use mathlib.Core.Path.{_≡_, refl, ap₂, subst}
+use mathlib.Core.List.{List, [], _∷_, _++_}
 use mathlib.Core.Bool.{Bool, true, false}
-use mathlib.Core.Logic.{_⊎_, _↔_, inl, inr}
+use mathlib.Core.Logic.{_↔_, inl, inr}
 use Prim.Native.Nat.{ℕ, zero, suc, _+_, _-_, _*_, _^_, _≤_, _<_}
 use native.Mathlib.Omega.{arith}
 use native.Mathlib.Nat.{mul-le-mul-left}
@@ -11,9 +12,8 @@ use lib.ListN.{length, length-append}
 use Rattle.std.proofs.shelf.Tests.{cases-lt, le-ltb, lt-leb}
 use borrow.Author.Tests.{lt-ltb, le-leb}
 use Rattle.tree.specs.declared.Node.{Node}
-use Rattle.tree.specs.Nodes.{nodeAt}
-use Rattle.tree.specs.Cover.{In, keep, below, above, coverAt, cover, Distinct, Few, SameSet}
-use Rattle.tree.proofs.Members.{in-below, in-above, of-below, of-above, Within, within-below, within-above, within-root}
+use Rattle.tree.specs.Cover.{In, keep, below, above, coverAt, Distinct, Few, SameSet}
+use Rattle.tree.proofs.Members.{in-below, in-above, of-below, of-above, Within, within-below, within-above}
 
 distinct-keep : (b : Bool) (n : ℕ) (ns : List ℕ) → (In n ns → ⊥) → Distinct ns → Distinct (keep b n ns)
 distinct-keep true n ns f s = (f, s)

@@ -1,15 +1,13 @@
+-- Which nodes the computed cover holds, by the way down.
 use mathlib.Core.Path.{_≡_, refl, sym, ap, ap₂, subst, _∙_}
-use mathlib.Core.List.{List, [], _∷_, _++_}
-use mathlib.Core.Bool.{Bool, true, false}
+use mathlib.Core.List.{List, [], _∷_}
 use mathlib.Core.Logic.{_⊎_, inl, inr}
-use Prim.Native.Nat.{ℕ, zero, suc, _+_, _-_, _*_, _^_, _≤_, _<_}
+use Prim.Native.Nat.{ℕ, zero, suc, _+_, _-_, _^_, _≤_, _<_}
 use native.Mathlib.Omega.{arith}
-use lib.ListN.{length}
 use Rattle.tree.specs.declared.Node.{Node}
 use Rattle.tree.specs.Nodes.{nodeAt, Covers, Child}
-use Rattle.tree.specs.Cover.{In, Struck, Free, keep, below, above, coverAt, cover}
-use Rattle.tree.proofs.Members.{depth, first}
-use Rattle.tree.proofs.Members.{wid, in-left, in-right, in-cases, in-below, in-above, of-below, of-above, Within, within-below, within-above, Under, under-self, Range, range}
+use Rattle.tree.specs.Cover.{In, Struck, Free, below, above, coverAt}
+use Rattle.tree.proofs.Members.{depth, first, wid, in-left, in-right, in-cases, in-below, in-above, of-below, of-above, Within, within-below, within-above, Under, under-self, range}
 
 abbrev pub PickedAt : ℕ → ℕ → ℕ → ℕ → List ℕ → Node → Type 0
 PickedAt d e h p ns x = (x ≡ nodeAt e p) ⊎ ((y : Node) × Under e h p y × Child d y x × Struck d ns y)

@@ -1,15 +1,14 @@
-use mathlib.Core.Path.{_≡_, refl, sym, ap, ap₂, subst, _∙_}
+-- A cover can be cut at a node in one way only.
+use mathlib.Core.Path.{_≡_, refl, sym, ap₂, subst, _∙_}
 use mathlib.Core.List.{List, [], _∷_, _++_}
-use mathlib.Core.Logic.{_⊎_, inl, inr}
-use Prim.Native.Nat.{ℕ, zero, suc, _+_, _-_, _^_, _≤_, _<_}
+use mathlib.Core.Logic.{inl}
+use Prim.Native.Nat.{ℕ, _+_, _-_, _^_, _≤_}
 use native.Mathlib.Omega.{arith}
 use lib.Pow.{pow-pos}
 use Rattle.tree.specs.declared.Node.{Node}
-use Rattle.tree.specs.Nodes.{nodeAt, Covers}
 use Rattle.tree.specs.Cover.{In, Ordered, cover}
-use Rattle.tree.specs.Puncture.{siblingsOn, Replaced, PuncturedAt}
-use Rattle.tree.proofs.Members.{depth, first}
-use Rattle.tree.proofs.Members.{in-right}
+use Rattle.tree.specs.Puncture.{siblingsOn, PuncturedAt}
+use Rattle.tree.proofs.Members.{depth, first, in-right}
 use Rattle.tree.proofs.Exact.{in-order}
 use Rattle.tree.proofs.Replacement.{punctured}
 

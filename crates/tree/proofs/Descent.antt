@@ -1,18 +1,18 @@
+-- The values at the nodes, and going down from one to another.
 use mathlib.Core.Path.{_≡_, refl, sym, ap, ap₂, subst, _∙_}
-use mathlib.Core.List.{List, [], _∷_, _++_, map, append-assoc, append-nil}
+use mathlib.Core.List.{List, [], _∷_, _++_}
 use mathlib.Core.Bool.{Bool, true, false}
-use mathlib.Core.Logic.{_⊎_, _↔_, inl, inr}
+use mathlib.Core.Logic.{inl, inr}
 use Prim.Native.Nat.{ℕ, zero, suc, _+_, _-_, _*_, _/_, _%_, _^_, _≤_, _<_}
 use native.Mathlib.Omega.{arith}
 use lib.Pow.{pow-pos, high, shr-shr}
 use lib.Dec.{eqb}
-use lib.ListN.{length, length-append}
+use lib.ListN.{length}
 use Rattle.tree.specs.declared.Node.{Node}
-use Rattle.tree.specs.Nodes.{nodeAt, leftOf, rightOf, Covers, IsNode, rootNode}
-use Rattle.tree.specs.Cover.{In, Free, cover}
+use Rattle.tree.specs.Nodes.{nodeAt, Covers, IsNode}
+use Rattle.tree.specs.Cover.{In, cover}
 use Rattle.tree.proofs.Members.{depth, first}
-use Rattle.tree.specs.Values.{Expansion, bit, stepOf, way, follow, valueOf, keyOf, TreeLaw, ValuesAre, Composed, KeyLaw, KeyFrom, valued, Agreed}
-use Rattle.tree.proofs.Members.{wid}
+use Rattle.tree.specs.Values.{Expansion, bit, stepOf, way, follow, valueOf, keyOf, ValuesAre, Composed, KeyFrom, valued, Agreed}
 use Rattle.tree.proofs.Places.{cover-free, cover-under, is-node}
 
 pub follow-append : (g : Expansion) (v : List ℕ) (us bs : List Bool) → follow g v (us ++ bs) ≡ follow g (follow g v us) bs

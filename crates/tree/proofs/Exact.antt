@@ -1,21 +1,16 @@
-use mathlib.Core.Path.{_≡_, refl, sym, ap, subst, _∙_}
+-- Which numbers the cover reaches, and its order.
+use mathlib.Core.Path.{_≡_, refl, sym, _∙_}
 use mathlib.Core.List.{List, [], _∷_, _++_}
-use mathlib.Core.Bool.{Bool, true, false}
-use mathlib.Core.Logic.{_⊎_, inl, inr}
-use Prim.Native.Nat.{ℕ, zero, suc, _+_, _-_, _*_, _^_, _≤_, _<_}
+use mathlib.Core.Logic.{inl, inr}
+use Prim.Native.Nat.{ℕ, zero, suc, _+_, _-_, _^_, _≤_, _<_}
 use native.Mathlib.Omega.{arith}
-use lib.Pow.{pow-pos}
-use lib.Dec.{ltb, leb}
-use lib.ListN.{length, length-append}
 use Rattle.std.proofs.shelf.Tests.{cases-lt}
-use borrow.Author.Tests.{ltb-true, leb-true, lt-ltb, le-leb}
 use Rattle.tree.specs.declared.Node.{Node}
-use Rattle.tree.specs.Nodes.{nodeAt, Covers, IsNode, Child}
-use Rattle.tree.specs.Cover.{In, Struck, Free, below, above, coverAt, cover, Ordered, InOrder, Reached, Exactly, AtMostOne, Exhausted, CoversExactly, Least}
-use Rattle.tree.proofs.Members.{depth, first}
-use Rattle.tree.proofs.Members.{wid, in-left, in-right, in-cases, in-below, in-above, of-below, of-above, Within, within-below, within-above, within-root, Under, under-self, Range, range}
-use Rattle.tree.proofs.Choice.{Chosen, to, not-struck}
-use Rattle.tree.proofs.Places.{cover-free, cover-under, is-under, covered-below}
+use Rattle.tree.specs.Nodes.{nodeAt, Covers}
+use Rattle.tree.specs.Cover.{In, below, above, coverAt, cover, Ordered, InOrder, Reached, Exactly, AtMostOne, Exhausted}
+use Rattle.tree.proofs.Members.{depth, first, wid, in-left, in-right, in-cases, of-below, of-above, Within, within-below, within-above, within-root, range}
+use Rattle.tree.proofs.Choice.{to}
+use Rattle.tree.proofs.Places.{cover-free, cover-under}
 
 -- every number that is not spent is reached
 reach : (d e h p : ℕ) (ns : List ℕ) (n : ℕ) → e + h ≡ d → Within h p ns → p ≤ n → n < p + 2 ^ h → (In n ns → ⊥) → Reached d (coverAt e h p ns) n

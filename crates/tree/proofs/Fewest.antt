@@ -1,8 +1,9 @@
-use mathlib.Core.Path.{_≡_, refl, sym, ap, subst, _∙_}
-use mathlib.Core.List.{List, [], _∷_, _++_}
+-- No nodes that cover the same numbers are fewer: the other list is split at the middle on the way down.
+use mathlib.Core.Path.{_≡_, refl, ap}
+use mathlib.Core.List.{List, [], _∷_}
 use mathlib.Core.Bool.{Bool, true, false}
 use mathlib.Core.Logic.{_⊎_, inl, inr}
-use Prim.Native.Nat.{ℕ, zero, suc, _+_, _-_, _*_, _^_, _≤_, _<_}
+use Prim.Native.Nat.{ℕ, zero, suc, _+_, _^_, _≤_, _<_}
 use native.Mathlib.Omega.{arith}
 use lib.Pow.{pow-pos}
 use lib.Dec.{ltb, leb}
@@ -10,12 +11,10 @@ use lib.ListN.{length, length-append}
 use Rattle.std.proofs.shelf.Tests.{cases-lt, le-ltb, lt-leb}
 use borrow.Author.Tests.{ltb-true, leb-true, lt-ltb, le-leb}
 use Rattle.tree.specs.declared.Node.{Node}
-use Rattle.tree.specs.Nodes.{nodeAt, Covers, IsNode, Child}
-use Rattle.tree.specs.Cover.{In, Struck, Free, below, above, coverAt, cover, Reached, CoversExactly, Least}
-use Rattle.tree.proofs.Members.{depth, first}
-use Rattle.tree.proofs.Members.{wid, in-left, in-right, in-cases, in-below, in-above, of-below, of-above, Within, within-below, within-above, within-root, Under, under-self, Range, range}
-use Rattle.tree.proofs.Choice.{Chosen, to, not-struck}
-use Rattle.tree.proofs.Places.{is-under, covered-below}
+use Rattle.tree.specs.Cover.{In, Free, below, above, coverAt, Reached, Least}
+use Rattle.tree.proofs.Members.{first, in-below, in-above, of-below, of-above, Within, within-below, within-above, within-root, Under, range}
+use Rattle.tree.proofs.Choice.{not-struck}
+use Rattle.tree.proofs.Places.{is-under}
 
 abbrev put : Bool → Node → List Node → List Node
 put true x xs = x ∷ xs

@@ -1,20 +1,18 @@
+-- Which nodes the computed siblings are.
 use mathlib.Core.Path.{_≡_, refl, sym, ap, subst, _∙_}
-use mathlib.Core.List.{List, [], _∷_, _++_, append-assoc, append-nil}
+use mathlib.Core.List.{List, [], _∷_}
 use mathlib.Core.Bool.{Bool, true, false}
-use mathlib.Core.Logic.{_⊎_, inl, inr}
-use Prim.Native.Nat.{ℕ, zero, suc, _+_, _-_, _*_, _^_, _≤_, _<_}
+use mathlib.Core.Logic.{inl, inr}
+use Prim.Native.Nat.{ℕ, zero, suc, _+_, _-_, _^_, _≤_}
 use native.Mathlib.Omega.{arith}
-use lib.Dec.{ltb, leb}
+use lib.Dec.{ltb}
 use lib.ListN.{length, length-append}
-use Rattle.std.proofs.shelf.Tests.{cases-lt, le-ltb, lt-leb}
-use borrow.Author.Tests.{lt-ltb, le-leb}
 use Rattle.tree.specs.declared.Node.{Node}
 use Rattle.tree.specs.Nodes.{nodeAt, IsNode, Child, Covers}
-use Rattle.tree.specs.Cover.{In, below, above, coverAt, cover, Ordered}
-use Rattle.tree.specs.Puncture.{turn, flank, siblingsOn, Beside, Siblings, SiblingsAre}
-use Rattle.tree.proofs.Members.{depth, first}
-use Rattle.tree.proofs.Members.{wid, Within, Under, Range, range, under-self}
-use Rattle.tree.proofs.Choice.{Chosen, to, from, node-eq}
+use Rattle.tree.specs.Cover.{In, Ordered}
+use Rattle.tree.specs.Puncture.{turn, flank, siblingsOn, Beside, SiblingsAre}
+use Rattle.tree.proofs.Members.{depth, first, wid, Within, Under, range, under-self}
+use Rattle.tree.proofs.Choice.{to, from, node-eq}
 use Rattle.tree.proofs.Places.{is-node, is-under}
 use Rattle.tree.proofs.Exact.{ordered}
 use Rattle.tree.proofs.Replacement.{cover-one}

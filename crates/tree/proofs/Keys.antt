@@ -1,15 +1,15 @@
 -- The cover with its values: what a puncture does to it, and which keys follow from it.
 use mathlib.Core.Path.{_≡_, refl, sym, ap, ap₂, subst, _∙_}
-use mathlib.Core.List.{List, [], _∷_, _++_, map}
-use mathlib.Core.Logic.{_⊎_, _↔_, inl, inr}
-use Prim.Native.Nat.{ℕ, zero, suc, _+_, _-_, _^_, _≤_, _<_}
+use mathlib.Core.List.{List, [], _∷_, _++_}
+use mathlib.Core.Logic.{inl, inr}
+use Prim.Native.Nat.{ℕ, _+_, _-_, _^_, _≤_, _<_}
 use native.Mathlib.Omega.{arith}
 use Rattle.tree.specs.declared.Node.{Node}
-use Rattle.tree.specs.Nodes.{nodeAt, IsNode, Covers}
-use Rattle.tree.specs.Cover.{In, Free, cover, coverAt}
-use Rattle.tree.specs.Puncture.{siblingsFrom, siblingsOn}
-use Rattle.tree.specs.Values.{Expansion, follow, valueOf, keyOf, keyFrom, valueFrom, Valued, valued, valuedCover, PuncturedValues, WorkedOut, KeysOf}
-use Rattle.tree.proofs.Members.{depth, first, in-right, Under, Range, range}
+use Rattle.tree.specs.Nodes.{Covers}
+use Rattle.tree.specs.Cover.{In, cover}
+use Rattle.tree.specs.Puncture.{siblingsFrom}
+use Rattle.tree.specs.Values.{Expansion, valueOf, keyOf, valueFrom, Valued, valued, valuedCover, PuncturedValues, WorkedOut, KeysOf}
+use Rattle.tree.proofs.Members.{depth, first, in-right, range}
 use Rattle.tree.proofs.Choice.{to}
 use Rattle.tree.proofs.Places.{is-node, cover-under}
 use Rattle.tree.proofs.Exact.{exactly}

@@ -1,16 +1,16 @@
-use mathlib.Core.Path.{_≡_, refl, sym, ap, subst, _∙_}
+-- Membership in lists, the spent numbers under a node, and the nodes under a node by the way down.
+use mathlib.Core.Path.{_≡_, refl, sym, ap, subst}
 use mathlib.Core.List.{List, [], _∷_, _++_}
 use mathlib.Core.Bool.{Bool, true, false}
 use mathlib.Core.Logic.{_⊎_, inl, inr}
-use Prim.Native.Nat.{ℕ, zero, suc, _+_, _-_, _*_, _^_, _≤_, _<_}
+use Prim.Native.Nat.{ℕ, zero, suc, _+_, _-_, _^_, _≤_, _<_}
 use native.Mathlib.Omega.{arith}
 use lib.Dec.{ltb, leb}
-use lib.ListN.{length}
 use lib.Pow.{pow-pos}
-use borrow.Author.Tests.{ltb-true, ltb-false, leb-true, leb-false, lt-ltb, le-leb}
+use borrow.Author.Tests.{ltb-true, leb-true, lt-ltb, le-leb}
 use Rattle.tree.specs.declared.Node.{Node}
-use Rattle.tree.specs.Nodes.{nodeAt, Covers}
-use Rattle.tree.specs.Cover.{In, keep, below, above, coverAt, cover}
+use Rattle.tree.specs.Nodes.{nodeAt}
+use Rattle.tree.specs.Cover.{In, keep, below, above}
 
 -- a node's two fields as functions
 abbrev pub depth : Node → ℕ

@@ -1,18 +1,18 @@
 -- The nodes of the tree, by places and by the way down.
-use mathlib.Core.Path.{_≡_, refl, sym, ap, subst, _∙_}
-use mathlib.Core.List.{List, [], _∷_, _++_}
-use mathlib.Core.Logic.{_⊎_, inl, inr}
+use mathlib.Core.Path.{_≡_, sym, ap, subst, _∙_}
+use mathlib.Core.List.{List}
+use mathlib.Core.Logic.{inl, inr}
 use Prim.Native.Nat.{ℕ, zero, suc, _+_, _-_, _*_, _^_, _≤_, _<_}
 use native.Mathlib.Omega.{arith}
 use native.Mathlib.Nat.{mul-le-mul-right}
-use lib.Pow.{pow-pos, pow-add}
+use lib.Pow.{pow-add}
 use Rattle.std.proofs.shelf.Tests.{cases-lt}
 use Rattle.tree.specs.declared.Node.{Node}
-use Rattle.tree.specs.Nodes.{nodeAt, Covers, IsNode, Child, rootNode}
-use Rattle.tree.specs.Cover.{In, Struck, Free, Picked, Characterised, below, coverAt, cover}
+use Rattle.tree.specs.Nodes.{nodeAt, Covers, IsNode}
+use Rattle.tree.specs.Cover.{In, Free, Picked, Characterised, below, cover}
 use Rattle.tree.proofs.Members.{depth, first}
-use Rattle.tree.proofs.Members.{wid, in-below, of-below, within-root, Under, under-self, Range, range}
-use Rattle.tree.proofs.Choice.{node-eq, PickedAt, Chosen, to, from}
+use Rattle.tree.proofs.Members.{in-below, of-below, within-root, Under, range}
+use Rattle.tree.proofs.Choice.{node-eq, PickedAt, to, from}
 
 pub record Placed (d e h p : ℕ) (x : Node) : Type 0 where
   pub j : ℕ

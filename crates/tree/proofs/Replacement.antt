@@ -1,20 +1,17 @@
+-- What one more spent number does to the computed cover.
 use mathlib.Core.Path.{_≡_, refl, sym, ap, subst, _∙_}
 use mathlib.Core.List.{List, [], _∷_, _++_, append-assoc, append-nil}
-use mathlib.Core.Bool.{Bool, true, false}
-use mathlib.Core.Logic.{_⊎_, inl, inr}
-use Prim.Native.Nat.{ℕ, zero, suc, _+_, _-_, _*_, _^_, _≤_, _<_}
+use mathlib.Core.Logic.{inl, inr}
+use Prim.Native.Nat.{ℕ, zero, suc, _+_, _-_, _^_, _≤_, _<_}
 use native.Mathlib.Omega.{arith}
-use lib.Dec.{ltb, leb}
-use lib.ListN.{length, length-append}
 use Rattle.std.proofs.shelf.Tests.{cases-lt, le-ltb, lt-leb}
 use borrow.Author.Tests.{lt-ltb, le-leb}
 use Rattle.tree.specs.declared.Node.{Node}
 use Rattle.tree.specs.Nodes.{nodeAt, Covers}
-use Rattle.tree.specs.Cover.{In, below, above, coverAt, cover, Distinct, Few}
-use Rattle.tree.specs.Puncture.{turn, flank, siblingsOn, Replaced, Punctured}
-use Rattle.tree.proofs.Members.{depth, first}
-use Rattle.tree.proofs.Members.{wid, in-cases, of-below, of-above, Within, within-below, within-above, within-root, Under, Range, range}
-use Rattle.tree.proofs.Choice.{Chosen, to}
+use Rattle.tree.specs.Cover.{In, below, above, coverAt}
+use Rattle.tree.specs.Puncture.{siblingsOn, Replaced, Punctured}
+use Rattle.tree.proofs.Members.{depth, first, in-cases, Within, within-below, within-above, within-root, range}
+use Rattle.tree.proofs.Choice.{to}
 use Rattle.tree.proofs.Places.{cover-under, covered-below}
 
 pub cover-one : (e h p n : ℕ) → coverAt e h p (n ∷ []) ≡ siblingsOn e h p n

@@ -5,10 +5,10 @@ use Prim.Native.Nat.{ℕ, suc, _+_, _-_, _*_, _/_, _%_, _^_, _≤_, _<_}
 use native.Mathlib.Omega.{arith}
 use native.Mathlib.Nat.{mod-eq-of-lt, div-add-mod', mul-mod-left}
 use lib.Dec.{T}
-use lib.Pow.{pow-mono, pow-pos}
+use lib.Pow.{pow-mono}
 use Rattle.tree.specs.declared.Node.{Node}
-use Rattle.tree.specs.Nodes.{nodeAt, leftOf, rightOf, widthOf, IsNode, Twins}
-use Rattle.tree.proofs.Members.{depth, first, Range, range}
+use Rattle.tree.specs.Nodes.{nodeAt, widthOf, IsNode, Twins}
+use Rattle.tree.proofs.Members.{depth, first, range}
 use Rattle.tree.proofs.Places.{is-under}
 use Rattle.tree.proofs.Choice.{node-eq}
 

@@ -2,11 +2,10 @@
 use mathlib.Core.Path.{_≡_, refl, sym, ap, ap₂, subst, _∙_}
 use mathlib.Core.List.{List, [], _∷_, _++_, append-assoc, append-nil}
 use mathlib.Core.Bool.{Bool, true, false}
-use mathlib.Core.Logic.{_⊎_, inl, inr}
-use Prim.Native.Nat.{ℕ, zero, suc, _+_, _-_, _*_, _/_, _%_, _^_, _≤_, _<_}
+use mathlib.Core.Logic.{inl, inr}
+use Prim.Native.Nat.{ℕ, zero, suc, _+_, _-_, _*_, _%_, _^_, _≤_, _<_}
 use native.Mathlib.Omega.{arith}
 use lib.Dec.{eqb}
-use lib.ListN.{length}
 use lib.Pow.{pow-pos}
 use Rattle.std.specs.Joined.{joined}
 use Rattle.std.proofs.shelf.Tests.{cases-lt}
@@ -14,12 +13,12 @@ use Rattle.tree.specs.declared.Node.{Node}
 use Rattle.tree.specs.Nodes.{nodeAt, leftOf, rightOf, widthOf, Covers, IsNode}
 use Rattle.tree.specs.Cover.{In}
 use Rattle.tree.specs.Puncture.{siblingsOn, siblingsFrom}
-use Rattle.tree.specs.Values.{Expansion, bit, stepOf, way, follow, valueFrom}
+use Rattle.tree.specs.Values.{Expansion, bit, stepOf, valueFrom}
 use Rattle.tree.proofs.Members.{depth, first}
 use Rattle.tree.proofs.Replacement.{sib-left, sib-right}
 use Rattle.tree.proofs.Descent.{quot}
 use Rattle.tree.proofs.Shapes.{halved, node-end}
-use Rattle.tree.proofs.Keys.{Lies, sibling-lies}
+use Rattle.tree.proofs.Keys.{sibling-lies}
 
 -- ---- one turn
 bit-at : (d k n : ℕ) (x : Node) (i : IsNode d x) → depth x < d → (i .place * 2 + k) * 2 ^ (d - suc (depth x)) ≤ n →

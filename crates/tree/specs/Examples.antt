@@ -1,9 +1,8 @@
 -- Widths and covers computed by the definitions, for the trees in use.
 use mathlib.Core.Path.{_≡_}
 use mathlib.Core.List.{List, [], _∷_}
-use Prim.Native.Nat.{ℕ, zero, suc, _^_}
+use Prim.Native.Nat.{ℕ, zero, suc}
 use lib.ListN.{length, take}
-use Rattle.tree.specs.declared.Node.{Node}
 use Rattle.tree.specs.Nodes.{treeLevels, nodeAt, rootNode, widthOf}
 use Rattle.tree.specs.Cover.{cover}
 

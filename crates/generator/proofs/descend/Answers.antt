@@ -3,7 +3,6 @@ use Rattle.bytes.specs.Buffers.{zeros}
 use Rattle.generator.proofs.Ends.{descended}
 use Rattle.generator.proofs.descend.Needs as need
 
--- src/lib.rt:43:1
 pub returns : need.returns
 returns g c =
     let i = c .if-not-covers .ensures tt .only tt in

@@ -5,7 +5,6 @@ use Rattle.tree.specs.Values.{way, follow}
 use Rattle.generator.proofs.Ends.{descended, row-kept}
 use Rattle.generator.proofs.descend_keeping.Needs as need
 
--- src/lib.rt:89:1
 pub returns : need.returns
 returns g c =
     let i = c .if-not-covers .ensures tt .only tt in

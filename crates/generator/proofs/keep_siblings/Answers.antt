@@ -1,21 +1,17 @@
-use borrow.Author.Needs.{needs}
 use borrow.Author.Tests.{eq-eqb}
-use mathlib.Core.Path.{_≡_, refl, sym, _∙_, ap, ap₂}
+use mathlib.Core.Path.{_≡_, sym, _∙_, ap, ap₂}
 use mathlib.Core.List.{List}
 use mathlib.Core.Bool.{true, false}
-use Prim.Native.Nat.{ℕ, _-_, _+_, _*_, _<_, _≤_}
+use Prim.Native.Nat.{ℕ, _-_, _+_, _<_}
 use native.Mathlib.Omega.{arith}
-use lib.ListN.{length}
 use Rattle.std.proofs.shelf.Tests.{ne-eqb}
 use Rattle.tree.specs.Values.{bit, way, follow}
-use Rattle.generator.proofs.Rows.{laid, laid-left, laid-right, laid-all, laid-none, walked, turned-to}
+use Rattle.generator.proofs.Rows.{laid, laid-left, laid-right, laid-all, walked, turned-to}
 use Rattle.generator.proofs.keep_siblings.Needs as need
 
--- src/lib.rt:122:13
 pub put-value-requires : need.put-value-requires
 put-value-requires g c κs = omega arith
 
--- src/lib.rt:118:5
 pub loop-lo-again-then-to-right : need.loop-lo-again-then-to-right
 loop-lo-again-then-to-right g c =
     let x = g .G·Generator .expansion (c .args .g .now) in
@@ -32,7 +28,6 @@ loop-lo-again-then-to-right g c =
     let r = laid-right x row v (c .turn .last .left) n lo hi l (i .1) (i .2) (c .turn .array-long2) (c .turn .ensures .one) b in
     (omega arith, i .1, c .put-value .array-long, w ∙ i .3, ap₂ (λ (a u : List ℕ). laid x a u n (lo + 1) hi) (c .put-value .ensures) t ∙ r ∙ i .4)
 
--- src/lib.rt:118:5
 pub loop-lo-again : need.loop-lo-again
 loop-lo-again g c =
     let x = g .G·Generator .expansion (c .args .g .now) in
@@ -49,7 +44,6 @@ loop-lo-again g c =
     let r = laid-left x row v (c .turn .last .right) n lo hi l (i .1) (i .2) (c .turn .array-long3) (c .turn .ensures .two) b in
     (omega arith, omega arith, c .put-value-else-to-right .array-long, w ∙ i .3, ap₂ (λ (a u : List ℕ). laid x a u n lo (hi - 1)) (c .put-value-else-to-right .ensures) t ∙ r ∙ i .4)
 
--- src/lib.rt:111:1
 pub returns : need.returns
 returns g c =
     let x = g .G·Generator .expansion (c .args .g .now) in

@@ -1,10 +1,9 @@
-use mathlib.Core.Path.{_≡_, sym}
+use mathlib.Core.Path.{sym}
 use Prim.Native.Nat.{_+_, _-_, _*_}
 use native.Mathlib.Omega.{arith}
 use Rattle.std.proofs.shelf.Parts.{putMid-paste}
 use Rattle.generator.proofs.put_value.Needs as need
 
--- src/lib.rt:132:1
 pub returns : need.returns
 returns c =
     let k = c .args .k in

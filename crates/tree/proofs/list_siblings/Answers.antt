@@ -1,20 +1,18 @@
 use borrow.Author.Needs.{needs}
 use mathlib.Core.Path.{_≡_, _∙_, sym}
-use Prim.Native.Nat.{_-_, _+_, _^_, _<_, _≤_}
+use Prim.Native.Nat.{_-_}
 use native.Mathlib.Omega.{arith}
 use lib.ListN.{length}
 use Rattle.tree.proofs.Shapes.{shifted}
 use Rattle.tree.proofs.Sift.{left-turn, right-turn, listed-none, listed-all, room-left, room-right}
 use Rattle.tree.proofs.list_siblings.Needs as need
 
--- src/lib.rt:45:5
 pub loop-lo-holds : need.loop-lo-holds
 loop-lo-holds c =
     let o = c .args .row .now in
     let z : length o - 0 ≡ length o = omega arith in
     (omega arith, omega arith, omega arith, omega arith, rw z (search needs), listed-none o (c .args .depth) (c .args .first) (c .args .n))
 
--- src/lib.rt:45:5
 pub loop-lo-again-then-n-p : need.loop-lo-again-then-n-p
 loop-lo-again-then-n-p c =
     let hi = c .loop-lo .hi in
@@ -23,7 +21,6 @@ loop-lo-again-then-n-p c =
     let t = left-turn (c .loop-lo .row) (c .loop-lo .e) (c .loop-lo .p) (c .args .n) lo hi _ (omega arith) (omega arith) w (c .if-n-p .taken) in
     (omega arith, omega arith, omega arith, omega arith, room-left (c .loop-lo .p) lo hi _ (omega arith) (c .loop-lo .inv .4), t ∙ c .loop-lo .inv .5)
 
--- src/lib.rt:45:5
 pub loop-lo-again : need.loop-lo-again
 loop-lo-again c =
     let hi = c .loop-lo .hi in
@@ -32,7 +29,6 @@ loop-lo-again c =
     let t = right-turn (c .loop-lo .row) (c .loop-lo .e) (c .loop-lo .p) (c .args .n) lo hi _ (omega arith) (omega arith) w (c .if-n-p .left) in
     (omega arith, omega arith, omega arith, omega arith, room-right (c .loop-lo .p) lo hi _ _ (omega arith) w (c .loop-lo .inv .4), t ∙ c .loop-lo .inv .5)
 
--- src/lib.rt:37:1
 pub returns : need.returns
 returns c =
     sym (listed-all (c .loop-lo .row) (c .loop-lo .e) (c .loop-lo .p) (c .args .n) (c .loop-lo .lo) (c .loop-lo .hi) (omega arith)) ∙ c .loop-lo .inv .5

@@ -1,15 +1,14 @@
-use mathlib.Core.Path.{_≡_, refl, sym}
-use Prim.Native.Nat.{_*_, _%_, _^_, _<_, _≤_, _+_}
+use mathlib.Core.Path.{refl}
+use Prim.Native.Nat.{_^_, _≤_, _+_}
 use native.Mathlib.Omega.{arith}
-use lib.Dec.{T, eqb→eq}
+use lib.Dec.{eqb→eq}
 use lib.Pow.{pow-mono}
 use borrow.Author.Tests.{eq-eqb}
-use Rattle.tree.specs.Nodes.{widthOf, IsNode, Twins}
+use Rattle.tree.specs.Nodes.{widthOf}
 use Rattle.tree.proofs.Shapes.{told, width-most, twins-from, twins-to}
 use Rattle.tree.proofs.Node.has_sibling.Needs as need
 use Rattle.tree.proofs.Node.has_sibling.Needs.{then-self-eq0·by·then-self-eq0, then-self-eq0·by·else-self-eq0·then-self-next, then-self-eq0·by·else-self-eq0·else-self-next·then-not-is-node}
 
--- src/lib.rt:83:13
 pub returns-then-self-eq0 : need.returns-then-self-eq0
 returns-then-self-eq0 c =
     record {
@@ -23,7 +22,6 @@ returns-then-self-eq0 c =
           ];
     }
 
--- src/lib.rt:86:23
 pub mul-width : need.mul-width
 mul-width c =
     let i = c .if-not-is-node .ensures tt .only tt in
@@ -32,7 +30,6 @@ mul-width c =
     let n : 2 ^ c .args .height ≤ 2 ^ 24 = pow-mono (i .0) in
     omega arith
 
--- src/lib.rt:78:5
 pub returns-then-self-width-eq0 : need.returns-then-self-width-eq0
 returns-then-self-width-eq0 c =
     let i = c .if-not-is-node .ensures tt .only tt in
@@ -45,7 +42,6 @@ returns-then-self-width-eq0 c =
       all = λ l t. told _ (eq-eqb (x .first + c .width-width .result) (y .first) (twins-to d (c .width-width .result) x y w t .next));
     }
 
--- src/lib.rt:78:5
 pub returns-else-self-width-eq0 : need.returns-else-self-width-eq0
 returns-else-self-width-eq0 c =
     let i = c .if-not-is-node .ensures tt .only tt in

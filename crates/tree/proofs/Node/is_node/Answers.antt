@@ -1,13 +1,10 @@
-use mathlib.Core.Path.{_≡_}
-use Prim.Native.Nat.{_*_, _%_, _^_, _<_}
+use Prim.Native.Nat.{_*_, _%_, _^_}
 use native.Mathlib.Omega.{arith}
 use lib.Dec.{ltb→lt, eqb→eq}
 use borrow.Author.Tests.{lt-ltb}
-use Rattle.tree.specs.Nodes.{widthOf}
 use Rattle.tree.proofs.Shapes.{told, shifted, node-from, node-to}
 use Rattle.tree.proofs.Node.is_node.Needs as need
 
--- src/lib.rt:39:5
 pub returns-then-self-width-eq0 : need.returns-then-self-width-eq0
 returns-then-self-width-eq0 c =
     let d = c .args .height in
@@ -19,7 +16,6 @@ returns-then-self-width-eq0 c =
       all = λ l i. told _ (lt-ltb (x .first) (1 * 2 ^ d % 4294967296) (omega (arith, i .inside)));
     }
 
--- src/lib.rt:39:5
 pub returns-else-self-width-eq0 : need.returns-else-self-width-eq0
 returns-else-self-width-eq0 c =
     let w = c .width .ensures .within (c .if-height-gt-MOST-LEVELS .left) (c .if-self-height .left) in

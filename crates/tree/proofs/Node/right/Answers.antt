@@ -1,11 +1,10 @@
 use mathlib.Core.Path.{_≡_, ap₂}
-use Prim.Native.Nat.{ℕ, suc, _+_, _/_}
+use Prim.Native.Nat.{suc, _+_, _/_}
 use native.Mathlib.Omega.{arith}
 use Rattle.tree.specs.Nodes.{nodeAt, widthOf}
 use Rattle.tree.proofs.Shapes.{halved}
 use Rattle.tree.proofs.Node.right.Needs as need
 
--- src/lib.rt:68:5
 pub returns : need.returns
 returns c =
     let x = c .args .self .now in

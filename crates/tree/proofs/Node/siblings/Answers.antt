@@ -2,16 +2,14 @@ use mathlib.Core.Path.{_≡_, ap, ap₂, subst, sym, _∙_}
 use mathlib.Core.List.{List, _++_}
 use Prim.Native.Nat.{ℕ, _-_, _+_, _^_, _≤_}
 use native.Mathlib.Omega.{arith}
-use lib.ListN.{length, take, replicate}
 use lib.Pow.{pow-mono}
 use Rattle.tree.specs.declared.Node.{Node}
-use Rattle.tree.specs.Nodes.{mostLevels, rootNode}
+use Rattle.tree.specs.Nodes.{mostLevels}
 use Rattle.tree.specs.Puncture.{siblingsOn}
 use Rattle.tree.proofs.Shapes.{node-end}
 use Rattle.tree.proofs.Sift.{clean-part, clean-rest}
 use Rattle.tree.proofs.Node.siblings.Needs as need
 
--- src/lib.rt:109:9
 pub list-siblings-requires : need.list-siblings-requires
 list-siblings-requires c κs =
     let i = c .if-not-covers .ensures tt .only tt in
@@ -28,7 +26,6 @@ list-siblings-requires c κs =
       numbers = subst (λ (z : ℕ). x .first + 2 ^ z ≤ 2 ^ 24) (sym s) r;
     }
 
--- src/lib.rt:101:5
 pub returns : need.returns
 returns c =
     let i = c .if-not-covers .ensures tt .only tt in
