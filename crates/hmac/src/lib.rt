@@ -56,6 +56,16 @@ impl Hmac {
         outer.update(out);
         outer.finish(out);
     }
+
+    /// Writes the MAC of what was fed to the start of a block, and zeros after it, for a MAC that is key material.
+    pub fn finish_block(self, out: &mut [u8; 64])
+        ensures { λ _. ⌜ ((k m : List ℕ) → Keyed k m self → now (out .exit) ≡ hmac k m ++ replicate 32 0) ⌝ }
+    {
+        let Hmac { inner, mut outer } = self;
+        inner.finish_block(out);
+        outer.update(&out[0..32]);
+        outer.finish_block(out);
+    }
 }
 
 // Writes the key block: the key, or the digest of a key longer than a block, and zeros after it.

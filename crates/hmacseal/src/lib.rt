@@ -45,9 +45,7 @@ pub impl Scheme for HmacSealer as HmacScheme {
         let mut mac = Hmac::new(key, pad);
         mac.update(&[STREAM]);
         mac.update(&index.to_be_bytes());
-        let mut block = [0; 32];
-        mac.finish(&mut block);
-        pad[0..32].copy_from_slice(&block);
+        mac.finish_block(pad);
     }
 
     fn tag(
