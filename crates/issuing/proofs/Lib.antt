@@ -1,0 +1,4 @@
+pub mod Sealing
+pub mod Ended
+pub mod Surveys
+pub mod Issued
