@@ -3,15 +3,17 @@ use mathlib.Core.Path.{_≡_, refl, sym, ap, ap₂, subst, _∙_}
 use mathlib.Core.List.{List, _∷_, _++_}
 use mathlib.Core.Bool.{Bool, true, _&&_}
 use mathlib.Core.Logic.{_↔_, inl}
-use Prim.Native.Nat.{ℕ, _+_, _-_, _^_, _≤_}
+use Prim.Native.Nat.{ℕ, _+_, _-_, _^_, _<_, _≤_}
 use native.Mathlib.Omega.{arith}
 use lib.Dec.{leb, ltb}
 use lib.ListN.{length}
 use lib.Pow.{pow-mono}
 use Rattle.std.proofs.shelf.Tests.{and-from, le-leb, lt-ltb, cond-true}
-use Rattle.std.specs.declared.result.Result.the-variants.{Ok}
+use Rattle.std.specs.declared.result.Result.the-variants.{Ok, Err}
 use Rattle.bytes.specs.Buffers.{filled}
 use Rattle.refusal.specs.Numbers.{numberOf}
+use Rattle.refusal.specs.declared.Refusal.the-variants.{NoFreeSlot}
+use Rattle.fault.specs.Faults.{placed}
 use Rattle.fault.specs.declared.Halt.{Halt}
 use Rattle.device.specs.Effects.{Slots}
 use Rattle.session.specs.Limits.{leastLength, mostLength}
@@ -30,7 +32,7 @@ use Rattle.marks.specs.Rows.{roomOf}
 use Rattle.chain.specs.Reading.{Link, fileOf, sound}
 use Rattle.rules.specs.Kits.{Kit, Lawful, valueLength, headingLength}
 use Rattle.rules.specs.Tickets.{headingOf, nameIn, numberIn, headingIn, sealedIn, ticketLeast, ticketLongest}
-use Rattle.rules.specs.Files.{entry}
+use Rattle.rules.specs.Files.{entry, freeCount}
 use Rattle.rules.specs.Calls.{Sound, Outcome, countFits, readAs, readBy, sameBytes, redeemable, redeemVerdict, Hit, Seals, Redeeming, declined, spent, shut, strange, full, cut, opened}
 use Rattle.rules.specs.Books.{Given, Book}
 use Rattle.rules.specs.Pasts.{Mode, running}
@@ -207,6 +209,47 @@ module _ (reads : ReadsBack) (at-least : AtLeast) (at-most : AtMost) (k : Kit) (
         e ∙ ap₂ (λ (l : List ℕ) (z : Node). Ok (length l, d - z .depth)) p n,
         st ∙ ap (λ (l : List ℕ). filled l room) p,
       )
+
+  no-room : length s - 1 - length (cover d (b .spent)) < d - x .depth → (room marks : ℕ) → mostLength ≤ room → roomOf (length s) ≤ marks →
+      (f : Sound) (front : List Link) (y : Link) (back : List Link) → Hit k d s on (g .ticket) room marks f front y back → d - y .node .depth ≤ freeCount s (f .1) → ⊥
+  no-room tight room marks lr lm f front y back h enough =
+      let n : y .node ≡ x = link-is y (hit-in room marks lr lm f front y back h) (h .covers) in
+      let w : f ≡ file = file-is f room marks lr lm (h .verdict) in
+      let c : length (f .1) ≡ length (v .links) = ap (λ (z : Sound). length (z .1)) w in
+      let a : length (v .links) ≡ length (cover d (b .spent)) = as-many (valueOf (k .expansion) d root) (v .links) (cover d (b .spent)) (v .covers) in
+      let e2 : y .node .depth ≡ x .depth = ap (λ (z : Node). z .depth) n in
+      omega arith
+
+  -- with too few free slots it is declined for that
+  full-own : length s - 1 - length (cover d (b .spent)) < d - x .depth → (room marks : ℕ) → mostLength ≤ room → roomOf (length s) ≤ marks →
+      (r : Outcome) (state : List ℕ) (t : Slots) (on′ joined : Bool) → Redeeming k d s on (g .ticket) room marks r state t on′ joined → r ≡ Err (placed NoFreeSlot (g .number))
+  full-own tight room marks lr lm r state t on′ joined (declined h q e u j) =
+      let w = verdict-is room marks lr lm in
+      let z : _≡_ {A = ℕ} 0 1 = cc in
+      absurd (omega arith)
+  full-own tight room marks lr lm r state t on′ joined (spent f q no-link e u j) =
+      let w = file-is f room marks lr lm q in
+      let y = has-link in
+      absurd (no-link (y .0) (subst (λ (z : Sound). In (y .0) (z .1)) (sym w) (y .1)) (y .2))
+  full-own tight room marks lr lm r state t on′ joined (shut f front y back h no-plain e u j) =
+      absurd (no-plain (g .state) (seals y (hit-in room marks lr lm f front y back h) (h .covers)))
+  full-own tight room marks lr lm r state t on′ joined (strange f front y back plain h se ir e u j) =
+      let p = plain-is y (hit-in room marks lr lm f front y back h) (h .covers) plain se in
+      let c : isRecord (g .state) ≡ true = v .records g given in
+      let z : _≡_ {A = ℕ} 0 1 = cc in
+      absurd (omega arith)
+  full-own tight room marks lr lm r state t on′ joined (full f front y back plain h se ir few e u j) = e ∙ ap (λ (n : ℕ). Err (placed NoFreeSlot n)) number-is
+  full-own tight room marks lr lm r state t on′ joined (cut f front y back plain fs m h hit se ready short e o z j) =
+      absurd (no-room tight room marks lr lm f front y back hit (ready .room))
+  full-own tight room marks lr lm r state t on′ joined (opened f front y back plain fs h se ready tq o j e st) =
+      absurd (no-room tight room marks lr lm f front y back h (ready .room))
+
+-- ---- too few free slots
+pub full-law : ReadsBack → AtLeast → AtMost → (k : Kit) (d : ℕ) (root name : List ℕ) (s : Slots) (on : Bool) (b : Book) → Lawful k → d ≤ 16 → Inv k d root name running s on b →
+    (g : Given) → In g (b .given) → (x : Node) → In x (cover d (b .spent)) → Covers d x (g .number) → length s - 1 - length (cover d (b .spent)) < d - x .depth →
+    (room marks : ℕ) → mostLength ≤ room → roomOf (length s) ≤ marks →
+    (r : Outcome) (state : List ℕ) (t : Slots) (on′ joined : Bool) → Redeeming k d s on (g .ticket) room marks r state t on′ joined → r ≡ Err (placed NoFreeSlot (g .number))
+full-law reads at-least at-most k d root name s on b lawful l v g given x here under tight = full-own reads at-least at-most k lawful d root name s on b l v g given x here under tight
 
 -- ---- once, and its own
 pub once-law : ReadsBack → AtLeast → AtMost → (k : Kit) (d : ℕ) (root name : List ℕ) (m : Mode) (s : Slots) (on : Bool) (b : Book) → Lawful k → d ≤ 16 →

@@ -16,3 +16,4 @@ pub mod Told
 pub mod Telling
 pub mod Alike
 pub mod LawHolds
+pub mod Worked
