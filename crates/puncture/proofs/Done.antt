@@ -5,35 +5,35 @@ use mathlib.Core.Bool.{Bool, true, false}
 use mathlib.Core.List.{List, [], _∷_, _++_, append-assoc}
 use mathlib.Core.Logic.{_⊎_, inl, inr}
 use native.Mathlib.Omega.{arith}
-use lib.ListN.{length, getD, set}
+use lib.ListN.{length, getD}
 use Rattle.std.specs.declared.result.Result.{Result}
 use Rattle.std.specs.declared.result.Result.the-variants.{Ok, Err}
 use Rattle.std.proofs.shelf.Lists.{length-drop, length-replicate, getD-set-other}
-use Rattle.bytes.specs.Buffers.{zeros, filled}
+use Rattle.bytes.specs.Buffers.{zeros}
 use Rattle.device.specs.Effects.{Slot, Slots, blank}
 use Rattle.fault.specs.declared.Halt.{Halt}
 use Rattle.fault.specs.declared.Step.the-variants.{NewRecord, Join, Erasure}
 use Rattle.layout.specs.Records.{valueOf}
 use Rattle.tree.specs.declared.Node.{Node}
-use Rattle.tree.specs.Nodes.{rootNode, mostLevels, IsNode, Covers, Above}
-use Rattle.tree.specs.Cover.{In, Distinct}
+use Rattle.tree.specs.Nodes.{rootNode, mostLevels, Above}
+use Rattle.tree.specs.Cover.{In}
 use Rattle.tree.specs.Puncture.{siblingsFrom}
-use Rattle.tree.specs.Values.{Expansion, Valued, valued, way, valueFrom, siblingValues}
+use Rattle.tree.specs.Values.{Valued, valued, way, valueFrom, siblingValues}
 use Rattle.tree.proofs.Members.{in-right}
 use Rattle.tree.proofs.Flanks.{length-siblings}
-use Rattle.marks.specs.Rows.{roomOf, isMarked, MarkLaws, unmarked}
+use Rattle.marks.specs.Rows.{roomOf, isMarked}
 use Rattle.marks.proofs.Laws.{mark-laws}
 use Rattle.chain.specs.declared.Found.{Found}
-use Rattle.chain.specs.Reading.{Link, slotsOf, linkAt, fileOf, sound}
-use Rattle.chain.specs.Listing.{firstSlot, between, markedAll}
+use Rattle.chain.specs.Reading.{Link, slotsOf}
+use Rattle.chain.specs.Listing.{firstSlot, markedAll}
 use Rattle.rules.specs.Kits.{Kit, valueLength}
-use Rattle.rules.specs.Writes.{Write, writeOf, Stepped, stood, Ran, through, failed}
+use Rattle.rules.specs.Writes.{writeOf, Stepped, stood, Ran, through, failed}
 use Rattle.rules.specs.Files.{relinked, entry, lastSlot, linksIn, recordOf, newWrites, joinWrite, eraseWrite, redeemWrites, FreeSlots, freeCount}
 use Rattle.rules.specs.Calls.{Sound, newLinks}
 use Rattle.rules.proofs.Plans.{stood-append, length-stood, ran-next, ran-cut, ran-as}
 use Rattle.puncture.specs.Laying.{openSlots, backward, valueAt, linksFor, Able, Laid, all, cut}
 use Rattle.puncture.specs.Puncturing.{Given, Puncturing}
-use Rattle.puncture.proofs.Open.{Within, within, rises, backward-apart, backward-in, length-backward, open-count, chain-marked}
+use Rattle.puncture.proofs.Open.{Bounded, within, rises, backward-apart, backward-in, length-backward, open-count, chain-marked}
 use Rattle.puncture.proofs.Files.{Standing, Chained, slot-of, sound-chain}
 use Rattle.puncture.proofs.Values.{follow-long, value-at, links-are}
 
@@ -83,11 +83,11 @@ laid-err {s = s} {t = t} {links = links} {last = last} {on = on} (cut h e r) =
     err-same : {x y : Halt} → _≡_ {A = Result ℕ Halt} (Err x) (Err y) → x ≡ y
     err-same e = cc
 
-pub record Ready′ (t s : Slots) (new : List Link) (i : ℕ) (on : Bool) : Type 0 where
+pub record Begun (t s : Slots) (new : List Link) (i : ℕ) (on : Bool) : Type 0 where
   pub slots : t ≡ stood s (newWrites new i)
   pub power : on ≡ true
 
-ran-ready : {s t : Slots} {new : List Link} {i : ℕ} {on : Bool} → Ran s (newWrites new i) (Ok tt) t on → Ready′ t s new i on
+ran-ready : {s t : Slots} {new : List Link} {i : ℕ} {on : Bool} → Ran s (newWrites new i) (Ok tt) t on → Begun t s new i on
 ran-ready (through e a o) = record { slots = a; power = o }
 ran-ready (failed m h e c o) = absurd (clash tt h (sym e))
 
@@ -131,31 +131,31 @@ module _ (s : Slots) (front : List Link) (x : Link) (back new : List Link) (last
 -- ---- from what is given
 module _ {k : Kit} {d : ℕ} {s : Slots} {on : Bool} {count : ℕ} {found : Found} {n : ℕ} {row marks : List ℕ} {f : Sound} {front : List Link} {x : Link} {back : List Link}
     (g : Given k d s on count found n row marks f front x back) (sized : (j : ℕ) → j < length s → length (getD s j []) ≡ 64) where
-  chained : Chained d s 0 (f .1)
-  chained = sound-chain d (k .generator) (k .sealer) s (f .0) (f .1) (g .file)
+  chain-stands : Chained d s 0 (f .1)
+  chain-stands = sound-chain d (k .generator) (k .sealer) s (f .0) (f .1) (g .file)
 
   on-chain : In x (f .1)
   on-chain = subst (λ (l : List Link). In x l) (sym (g .chain)) (in-right x front (x ∷ back) (inl refl))
 
-  standing : Standing d s 0 x
-  standing = chained .each x on-chain
+  stands : Standing d s 0 x
+  stands = chain-stands .each x on-chain
 
   pub node-same : found .node ≡ x .node
   node-same = ap (λ (z : Found). z .node) (g .finds)
 
   -- there is a way down
-  pub above : d ≤ mostLevels → Above d (found .node) n
-  above m = subst (λ (y : Node). Above d y n) (sym node-same) (record { few = m; isNode = standing .node; covers = g .covers })
+  pub way-down : d ≤ mostLevels → Above d (found .node) n
+  way-down m = subst (λ (y : Node). Above d y n) (sym node-same) (record { few = m; isNode = stands .node; covers = g .covers })
 
   slots-in : (j : ℕ) → In j (slotsOf (f .1)) → (0 < j) × (j < count)
   slots-in j m =
       let r = slot-of j (f .1) m in
-      let t = chained .each (r .0) (r .1) in
+      let t = chain-stands .each (r .0) (r .1) in
       (omega (arith, t .above, r .2), omega (arith, t .within, r .2, g .size))
 
   free-count : length (openSlots marks count) ≡ freeCount s (f .1)
   free-count =
-      let c = open-count mark-laws (length marks) (f .1) count (g .wide) (chained .apart) slots-in in
+      let c = open-count mark-laws (length marks) (f .1) count (g .wide) (chain-stands .apart) slots-in in
       let e : length (openSlots marks count) ≡ length (openSlots (markedAll (zeros (length marks)) (f .1)) count) = ap (λ (l : List ℕ). length (openSlots l count)) (g .marked) in
       omega (arith, c, e, g .size)
 
@@ -168,7 +168,7 @@ module _ {k : Kit} {d : ℕ} {s : Slots} {on : Bool} {count : ℕ} {found : Foun
   enough : m ≤ length (openSlots marks count)
   enough = omega (arith, free-count, g .room)
 
-  inside : (j : ℕ) → In j taken → Within marks 1 (count - 1) j
+  inside : (j : ℕ) → In j taken → Bounded marks 1 (count - 1) j
   inside j i = within marks 1 (count - 1) j (backward-in (openSlots marks count) m j enough i)
 
   off-chain : (j : ℕ) → In j taken → In j (slotsOf (f .1)) → ⊥
@@ -196,8 +196,8 @@ module _ {k : Kit} {d : ℕ} {s : Slots} {on : Bool} {count : ℕ} {found : Foun
   value-long : length (x .value) ≡ valueLength
   unfolding valueOf
   value-long =
-      let e : x .value ≡ valueOf (getD s (x .slot) []) = ap (λ (z : Link). z .value) (standing .link) in
-      ap length e ∙ length-drop 32 (getD s (x .slot) []) ∙ ap (λ (z : ℕ). z - 32) (sized (x .slot) (standing .within))
+      let e : x .value ≡ valueOf (getD s (x .slot) []) = ap (λ (z : Link). z .value) (stands .link) in
+      ap length e ∙ length-drop 32 (getD s (x .slot) []) ∙ ap (λ (z : ℕ). z - 32) (sized (x .slot) (stands .within))
 
   module _ (nodes : List Node) (is : nodes ≡ siblingsFrom d (found .node) n) where
     nodes-are : nodes ≡ siblingsFrom d (x .node) n
@@ -206,8 +206,8 @@ module _ {k : Kit} {d : ℕ} {s : Slots} {on : Bool} {count : ℕ} {found : Foun
     nodes-many : length nodes ≡ m
     nodes-many = ap length nodes-are ∙ siblings-many
 
-    pub able : Able s on count (length nodes) marks
-    able = record { power = g .power; size = g .size; room = omega (arith, nodes-many, enough) }
+    pub is-able : Able s on count (length nodes) marks
+    is-able = record { power = g .power; size = g .size; room = omega (arith, nodes-many, enough) }
 
     links-new : linksFor (openSlots marks count) nodes row ≡ newLinks k d x n taken
     links-new =
@@ -237,7 +237,7 @@ module _ {k : Kit} {d : ℕ} {s : Slots} {on : Bool} {count : ℕ} {found : Foun
 
     last-within : lastSlot 0 front < length s
     last-within = elim last-in [
-      | inl e ↦ omega (arith, standing .within)
+      | inl e ↦ omega (arith, stands .within)
       | inr i ↦ omega (arith, slots-in (lastSlot 0 front) i .1, g .size)
     ]
 
@@ -256,7 +256,7 @@ module _ {k : Kit} {d : ℕ} {s : Slots} {on : Bool} {count : ℕ} {found : Foun
 
     pub cut-records : {t : Slots} {on′ : Bool} {h : Halt} → Laid s (linksFor (openSlots marks count) nodes row) (found .next) (Err h) t on′ →
         Puncturing k d s f front x back n (Err h) t on′
-    cut-records l = record { taken = taken; free = free-slots; many = many; ran = plan-cut s front x back (newLinks k d x n taken) last-within (standing .within) last-off _ _ _ (laid-new l) }
+    cut-records l = record { taken = taken; free = free-slots; many = many; ran = plan-cut s front x back (newLinks k d x n taken) last-within (stands .within) last-off _ _ _ (laid-new l) }
 
     pub may-join : {t : Slots} {on′ : Bool} {i : ℕ} → Laid s (linksFor (openSlots marks count) nodes row) (found .next) (Ok i) t on′ → (found .before < length t) × (on′ ≡ true)
     may-join l =
@@ -267,7 +267,7 @@ module _ {k : Kit} {d : ℕ} {s : Slots} {on : Bool} {count : ℕ} {found : Foun
         Stepped t on′ (writeOf (found .before) (relinked i (getD t (found .before) [])) Join) (Err h) u on″ → Puncturing k d s f front x back n (Err h) u on″
     cut-join {t = t} {u = u} {on′ = on′} {on″ = on″} {i = i} {h = h} l w =
         let w′ = subst (λ (z : ℕ). Stepped t on′ (writeOf z (relinked i (getD t z [])) Join) (Err h) u on″) before-is w in
-        record { taken = taken; free = free-slots; many = many; ran = plan-join s front x back (newLinks k d x n taken) last-within (standing .within) last-off t u on′ on″ i h (laid-new l) w′ }
+        record { taken = taken; free = free-slots; many = many; ran = plan-join s front x back (newLinks k d x n taken) last-within (stands .within) last-off t u on′ on″ i h (laid-new l) w′ }
 
     pub punctured : {t u v : Slots} {on′ on″ on‴ : Bool} {i : ℕ} {r : Result (Unit {0}) Halt} → Laid s (linksFor (openSlots marks count) nodes row) (found .next) (Ok i) t on′ →
         Stepped t on′ (writeOf (found .before) (relinked i (getD t (found .before) [])) Join) (Ok tt) u on″ →
@@ -275,4 +275,4 @@ module _ {k : Kit} {d : ℕ} {s : Slots} {on : Bool} {count : ℕ} {found : Foun
     punctured {t = t} {u = u} {v = v} {on′ = on′} {on″ = on″} {on‴ = on‴} {i = i} {r = r} l w z =
         let w′ = subst (λ (b : ℕ). Stepped t on′ (writeOf b (relinked i (getD t b [])) Join) (Ok tt) u on″) before-is w in
         let z′ = subst (λ (b : ℕ). Stepped u on″ (writeOf b blank Erasure) r v on‴) slot-is z in
-        record { taken = taken; free = free-slots; many = many; ran = plan-done s front x back (newLinks k d x n taken) last-within (standing .within) last-off t u v on′ on″ on‴ i r (laid-new l) w′ z′ }
+        record { taken = taken; free = free-slots; many = many; ran = plan-done s front x back (newLinks k d x n taken) last-within (stands .within) last-off t u v on′ on″ on‴ i r (laid-new l) w′ z′ }

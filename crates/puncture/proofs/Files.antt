@@ -1,8 +1,8 @@
 -- What stands in a file that is sound: its records in slots of their own, laid out as nodes, one after the other.
-use Prim.Native.Nat.{ℕ, zero, suc, _+_, _-_, _^_, _<_, _≤_}
+use Prim.Native.Nat.{ℕ, zero, suc, _-_, _^_, _<_, _≤_}
 use mathlib.Core.Path.{_≡_, refl, sym, ap, subst, _∙_}
 use mathlib.Core.Bool.{Bool, true, false, cond, _&&_}
-use mathlib.Core.List.{List, [], _∷_, _++_}
+use mathlib.Core.List.{List, [], _∷_}
 use mathlib.Core.Logic.{_⊎_, inl, inr, ⊎-elim}
 use native.Mathlib.Omega.{arith}
 use lib.Dec.{eqb, leb, ltb}
@@ -19,7 +19,7 @@ use Rattle.tree.specs.declared.Node.{Node}
 use Rattle.tree.specs.Nodes.{nodeAt, widthOf, IsNode}
 use Rattle.tree.specs.Cover.{In, Distinct}
 use Rattle.tree.proofs.Shapes.{node-from}
-use Rattle.chain.specs.Reading.{Link, Walk, Walk.broken, Walk.walked, File, File.badHead, File.badLink, File.uncovered, File.sound, endOf, afterTwin, mayFollow, consed, nodeIn, linkAt, walk, lowestFrom, judged, headed, fileOf, slotsOf}
+use Rattle.chain.specs.Reading.{Link, Walk, Walk.broken, Walk.walked, File, File.badHead, File.uncovered, File.sound, endOf, mayFollow, consed, nodeIn, linkAt, walk, lowestFrom, judged, headed, fileOf, slotsOf}
 
 -- a record of the chain: in a slot of the device, read from there, a node of the tree that does not begin before `from`
 pub record Standing (d : ℕ) (s : Slots) (from : ℕ) (x : Link) : Type 0 where

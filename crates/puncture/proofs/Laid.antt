@@ -1,6 +1,6 @@
 -- Laying out a record, and the records that are written so far.
-use Prim.Native.Nat.{ℕ, zero, suc, _+_, _-_, _*_, _<_, _≤_}
-use mathlib.Core.Path.{_≡_, refl, sym, ap, subst, _∙_}
+use Prim.Native.Nat.{ℕ, zero, suc, _+_, _-_, _<_, _≤_}
+use mathlib.Core.Path.{_≡_, refl, sym, ap, _∙_}
 use mathlib.Core.Bool.{Bool, true}
 use mathlib.Core.List.{List, [], _∷_, _++_, append-assoc, append-nil}
 use native.Mathlib.Omega.{arith}
@@ -15,7 +15,6 @@ use Rattle.layout.specs.Records.{encodeNode}
 use Rattle.tree.specs.declared.Node.{Node}
 use Rattle.tree.specs.Nodes.{rootNode}
 use Rattle.marks.specs.Rows.{unmarked, firstOf}
-use Rattle.chain.specs.Reading.{Link}
 use Rattle.rules.specs.Writes.{Write, writeOf, Stepped, Ran}
 use Rattle.rules.specs.Files.{entry, newWrites}
 use Rattle.rules.proofs.Plans.{ran-none, ran-next, ran-cut, ran-as}
@@ -64,14 +63,14 @@ module _ {s : Slots} {nodes : List Node} {row marks : List ℕ} {count last left
     some-left e = none-left (unmarked marks from (count - from)) (openSlots marks count) (length nodes - left) e (g .rest) (omega (arith, able .room, g .within))
 
     module _ (f : ℕ) (is : firstOf (unmarked marks from (count - from)) ≡ Some f) where
-      first : First marks from (count - from) f
-      first = first-is marks from (count - from) f is
+      first-open : First marks from (count - from) f
+      first-open = first-is marks from (count - from) f is
 
       here : (getD (openSlots marks count) (length nodes - left) 0 ≡ f) × (drop (suc (length nodes - left)) (openSlots marks count) ≡ unmarked marks (f + 1) (from + (count - from) - (f + 1)))
-      here = left-over (openSlots marks count) _ (length nodes - left) f (sym (g .rest) ∙ first .rest)
+      here = left-over (openSlots marks count) _ (length nodes - left) f (sym (g .rest) ∙ first-open .rest)
 
       pub slot-small : f < count
-      slot-small = omega (arith, first .low, first .high)
+      slot-small = omega (arith, first-open .low, first-open .high)
 
       abbrev recordHere : Slot
       recordHere = encodeNode (record { depth = getD nodes (left - 1) rootNode .depth; first = getD nodes (left - 1) rootNode .first; next = next }) (valueAt row (left - 1))
@@ -105,7 +104,7 @@ module _ {s : Slots} {nodes : List Node} {row marks : List ℕ} {count last left
           Stepped t on (writeOf f b NewRecord) (Ok tt) v on′ → Going s nodes row marks count last (left - 1) (f + 1) f v on′
       again b v on′ e w =
           let a : length nodes - (left - 1) ≡ suc (length nodes - left) = omega (arith, g .within) in
-          let c : from + (count - from) - (f + 1) ≡ count - (f + 1) = omega (arith, slot-small, first .low) in
+          let c : from + (count - from) - (f + 1) ≡ count - (f + 1) = omega (arith, slot-small, first-open .low) in
           record {
             within = omega (arith, g .within);
             rest = sym (rw (← c) (here .1)) ∙ ap (λ (j : ℕ). drop j (openSlots marks count)) (sym a);

@@ -5,9 +5,7 @@ use mathlib.Core.Bool.{Bool, true, false}
 use mathlib.Core.List.{List, [], _∷_}
 use mathlib.Core.Logic.{_⊎_, inl, inr, ⊎-elim}
 use native.Mathlib.Omega.{arith}
-use native.Mathlib.Numerals.{add-one}
 use lib.ListN.{length, getD, drop}
-use Rattle.std.specs.declared.option.Option.{Option}
 use Rattle.std.specs.declared.option.Option.the-variants.{Some, None}
 use Rattle.std.proofs.shelf.Tests.{cases-bool, cases-lt, cases-eq}
 use Rattle.std.proofs.shelf.Lists.{length-replicate}
@@ -63,20 +61,20 @@ left-over (u ∷ us) vs zero f e = (cc, cc)
 left-over (u ∷ us) vs (suc n) f e = left-over us vs n f e
 
 -- ---- they rise
-pub record Within (row : List ℕ) (i n f : ℕ) : Type 0 where
+pub record Bounded (row : List ℕ) (i n f : ℕ) : Type 0 where
   pub low : i ≤ f
   pub high : f < i + n
   pub clear : isMarked row f ≡ false
 
-within-more : (row : List ℕ) (i n f : ℕ) → Within row (suc i) n f → Within row i (suc n) f
+within-more : (row : List ℕ) (i n f : ℕ) → Bounded row (suc i) n f → Bounded row i (suc n) f
 within-more row i n f w = record { low = omega (arith, w .low); high = omega (arith, w .high); clear = w .clear }
 
-within-listed : (b : Bool) (row : List ℕ) (i n f : ℕ) → isMarked row i ≡ b → (In f (unmarked row (suc i) n) → Within row (suc i) n f) → In f (listed b i (unmarked row (suc i) n)) → Within row i (suc n) f
+within-listed : (b : Bool) (row : List ℕ) (i n f : ℕ) → isMarked row i ≡ b → (In f (unmarked row (suc i) n) → Bounded row (suc i) n f) → In f (listed b i (unmarked row (suc i) n)) → Bounded row i (suc n) f
 within-listed true row i n f t g m = within-more row i n f (g m)
 within-listed false row i n f t g (inl q) = record { low = omega arith; high = omega arith; clear = ap (isMarked row) q ∙ t }
 within-listed false row i n f t g (inr m) = within-more row i n f (g m)
 
-pub within : (row : List ℕ) (i n f : ℕ) → In f (unmarked row i n) → Within row i n f
+pub within : (row : List ℕ) (i n f : ℕ) → In f (unmarked row i n) → Bounded row i n f
 within row i zero f m = absurd m
 within row i (suc n) f m = within-listed (isMarked row i) row i n f refl (within row (suc i) n f) m
 

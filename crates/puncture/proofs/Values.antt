@@ -20,13 +20,12 @@ use Rattle.tree.specs.declared.Node.{Node}
 use Rattle.tree.specs.Nodes.{mostLevels, rootNode, Above}
 use Rattle.tree.specs.Cover.{In}
 use Rattle.tree.specs.Puncture.{siblingsFrom, Listed}
-use Rattle.tree.specs.Values.{Expansion, Valued, valued, stepOf, follow}
+use Rattle.tree.specs.Values.{Expansion, valued, stepOf, follow}
 use Rattle.tree.proofs.Members.{range}
 use Rattle.tree.proofs.Places.{is-under}
 use Rattle.tree.proofs.Flanks.{length-siblings}
 use Rattle.tree.proofs.Keys.{sibling-lies}
 use Rattle.std.specs.declared.option.Option.the-variants.{Some}
-use Rattle.chain.specs.Reading.{Link}
 use Rattle.rules.specs.Kits.{valueLength}
 use Rattle.rules.specs.Files.{linksIn, relinked}
 use Rattle.puncture.specs.Laying.{backward, valueAt, lastLinks, linksFor}

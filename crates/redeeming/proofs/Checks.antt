@@ -1,36 +1,34 @@
 -- The checks of a redemption, as its verdict has them.
-use Prim.Native.Nat.{ℕ, zero, suc, _+_, _-_, _<_, _≤_}
+use Prim.Native.Nat.{ℕ, _-_, _<_, _≤_}
 use mathlib.Core.Path.{_≡_, refl, sym, ap, ap₂, subst, _∙_}
 use mathlib.Core.Bool.{Bool, true, false, cond, _&&_}
-use mathlib.Core.List.{List, [], _∷_, _++_}
-use mathlib.Core.Logic.{inl, inr, ⊎-elim}
+use mathlib.Core.List.{List, [], _∷_}
+use mathlib.Core.Logic.{⊎-elim}
 use native.Mathlib.Omega.{arith}
-use lib.Dec.{T, eqb, leb, ltb}
-use lib.ListN.{length, getD, take, drop}
-use Rattle.std.specs.Orderings.{Decides}
+use lib.Dec.{eqb, leb, ltb}
+use lib.ListN.{length, take, drop}
 use Rattle.std.specs.declared.option.Option.{Option}
-use Rattle.std.specs.declared.option.Option.the-variants.{Some, None}
+use Rattle.std.specs.declared.option.Option.the-variants.{Some}
 use Rattle.std.specs.declared.result.Result.{Result}
 use Rattle.std.specs.declared.result.Result.the-variants.{Ok, Err}
 use Rattle.std.proofs.shelf.Lists.{take-all, length-drop}
 use Rattle.std.proofs.shelf.Tests.{cases-bool, and-parts, and-from, leb-true, eqb-true, eq-eqb, lt-ltb, le-ltb}
 use Rattle.bytes.specs.Buffers.{zeros}
-use Rattle.refusal.specs.declared.Refusal.the-variants.{ShortBuffer, SlotCount, TicketLength, OtherName, NotIssued, BadHead, BadLink, Uncovered}
+use Rattle.refusal.specs.declared.Refusal.the-variants.{TicketLength}
 use Rattle.device.specs.Effects.{Slots}
 use Rattle.fault.specs.declared.Halt.{Halt}
 use Rattle.fault.specs.declared.Step.the-variants.{Read}
-use Rattle.fault.specs.Faults.{plainly, placed, unpowered}
-use Rattle.layout.specs.declared.Head.{Head}
+use Rattle.fault.specs.Faults.{plainly, unpowered}
 use Rattle.layout.specs.Records.{valueOf}
 use Rattle.marks.specs.Rows.{roomOf}
 use Rattle.chain.specs.declared.Survey.{Survey}
-use Rattle.chain.specs.Reading.{Link, File, File.badHead, File.badLink, File.uncovered, File.sound, fileOf}
+use Rattle.chain.specs.Reading.{File, File.badHead, File.badLink, File.uncovered, File.sound, fileOf}
 use Rattle.chain.specs.Listing.{findIn, markedAll}
-use Rattle.chain.specs.Outcome.{Reading, declined, read, judgedAs, readingOf, askedOf, answerOf, marksOf}
+use Rattle.chain.specs.Outcome.{declined, judgedAs, readingOf, answerOf, marksOf}
 use Rattle.rules.specs.Kits.{Kit, headingLength}
-use Rattle.rules.specs.Tickets.{nameIn, numberIn, ticketLeast, ticketLongest}
-use Rattle.rules.specs.Calls.{Sound, readAs, readBy, sameBytes, redeemable, countFits, Fitting}
-use Rattle.redeeming.specs.Steps.{roomy, Entering, enters, short, unfit, passing, Known, Surveying, known, halted}
+use Rattle.rules.specs.Tickets.{numberIn, ticketLeast, ticketLongest}
+use Rattle.rules.specs.Calls.{Sound, readAs, readBy, sameBytes, redeemable, Fitting}
+use Rattle.redeeming.specs.Steps.{roomy, Entering, enters, unfit, passing, Surveying, tells, halted}
 
 -- ---- bytes
 bytes-same : (xs ys : List ℕ) → sameBytes xs ys ≡ true → xs ≡ ys
@@ -147,26 +145,26 @@ module _ (k : Kit) (d g w m : ℕ) (s : Slots) (on : Bool) (eg : k .generator �
       (cases-bool on)
 
   module _ (ticket : List ℕ) (n : ℕ) (v : Survey) (marks : List ℕ) (e : Ok v ≡ answerOf d (Some n) (readingOf d g w m s on)) (q : marks ≡ marksOf m (readingOf d g w m s on)) where
-    told : (on ≡ true) × Told d n m (fileOf d g w s) v marks
-    told = read-ok n v marks e q
+    telling : (on ≡ true) × Told d n m (fileOf d g w s) v marks
+    telling = read-ok n v marks e q
 
-    by-is : readBy k d s on ≡ Ok (told .1 .file)
-    by-is = ap (λ (b : Bool). readAs b (fileOf d (k .generator) (k .sealer) s)) (told .0) ∙ ap (readAs true) (file-is ∙ told .1 .is)
+    by-is : readBy k d s on ≡ Ok (telling .1 .file)
+    by-is = ap (λ (b : Bool). readAs b (fileOf d (k .generator) (k .sealer) s)) (telling .0) ∙ ap (readAs true) (file-is ∙ telling .1 .is)
 
     pub check-err : (h : Halt) → ((f : Sound) → f .0 ≡ v .head → redeemable k ticket (Ok f) ≡ passing (Err h) f) → Surveying k d s on ticket m (Err h) marks
-    check-err h c = halted h refl (ap (redeemable k ticket) by-is ∙ c (told .1 .file) (sym (told .1 .head)))
+    check-err h c = halted h refl (ap (redeemable k ticket) by-is ∙ c (telling .1 .file) (sym (telling .1 .head)))
 
     pub check-ok : ((f : Sound) → f .0 ≡ v .head → redeemable k ticket (Ok f) ≡ passing (Ok tt) f) → (headingLength ≤ length ticket → n ≡ numberIn ticket) → Surveying k d s on ticket m (Ok v) marks
     check-ok c number =
-        let f = told .1 .file in
-        let p = c f (sym (told .1 .head)) in
+        let f = telling .1 .file in
+        let p = c f (sym (telling .1 .head)) in
         let l = with-heading k ticket f f p in
-        known v f refl (record {
+        tells v f refl (record {
           passed = ap (redeemable k ticket) by-is ∙ p;
-          power = told .0;
-          reads = file-is ∙ told .1 .is;
+          power = telling .0;
+          reads = file-is ∙ telling .1 .is;
           heading = l;
-          many = told .1 .many;
-          finds = told .1 .finds ∙ ap (λ (j : ℕ). findIn d j 0 (f .1)) (number l);
-          marked = told .1 .marked;
+          many = telling .1 .many;
+          finds = telling .1 .finds ∙ ap (λ (j : ℕ). findIn d j 0 (f .1)) (number l);
+          marked = telling .1 .marked;
         })

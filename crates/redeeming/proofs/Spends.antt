@@ -1,44 +1,43 @@
 -- A redemption, from its steps.
-use Prim.Native.Nat.{ℕ, _+_, _-_, _*_, _<_, _≤_}
+use Prim.Native.Nat.{ℕ, _-_, _<_, _≤_}
 use mathlib.Core.Path.{_≡_, refl, sym, ap, subst, _∙_}
-use mathlib.Core.Bool.{Bool, true, false, cond, _&&_}
-use mathlib.Core.List.{List, [], _∷_, _++_}
-use mathlib.Core.Logic.{_⊎_, inl, inr}
+use mathlib.Core.Bool.{Bool, true, false}
+use mathlib.Core.List.{List, [], _∷_}
+use mathlib.Core.Logic.{inl, inr}
 use native.Mathlib.Omega.{arith}
 use lib.Dec.{leb, ltb}
-use lib.ListN.{length, getD}
+use lib.ListN.{length}
 use Rattle.std.specs.declared.option.Option.the-variants.{Some, None}
 use Rattle.std.specs.declared.result.Result.{Result}
 use Rattle.std.specs.declared.result.Result.the-variants.{Ok, Err}
 use Rattle.std.proofs.shelf.Tests.{and-parts, leb-true}
-use Rattle.bytes.specs.Buffers.{zeros, filled}
-use Rattle.refusal.specs.declared.Refusal.the-variants.{ShortBuffer, SlotCount, Spent, SealBroken, OpenedNotARecord, NoFreeSlot}
+use Rattle.bytes.specs.Buffers.{zeros}
+use Rattle.refusal.specs.declared.Refusal.the-variants.{Spent, NoFreeSlot}
 use Rattle.device.specs.Effects.{Slots}
 use Rattle.fault.specs.declared.Halt.{Halt}
-use Rattle.fault.specs.Faults.{plainly, placed}
+use Rattle.fault.specs.Faults.{placed}
 use Rattle.session.specs.Limits.{mostLength}
 use Rattle.session.specs.Records.{isRecord}
-use Rattle.sealer.specs.Outcomes.{PlainOf, NoPlain}
-use Rattle.tree.specs.declared.Node.{Node}
-use Rattle.tree.specs.Nodes.{mostLevels, Covers, Above}
+use Rattle.sealer.specs.Outcomes.{PlainOf}
+use Rattle.tree.specs.Nodes.{mostLevels, Covers}
 use Rattle.tree.specs.Cover.{In}
 use Rattle.tree.specs.Values.{Expansion, keyFrom}
 use Rattle.tree.proofs.Members.{in-right}
 use Rattle.marks.specs.Rows.{roomOf}
 use Rattle.chain.specs.declared.Found.{Found}
 use Rattle.chain.specs.declared.Survey.{Survey}
-use Rattle.chain.specs.Reading.{Link, fileOf, sound}
-use Rattle.chain.specs.Listing.{between, findIn, markedAll}
-use Rattle.chain.specs.Sound.{nodesOf, FoundAt, lastSlot as lastOf}
+use Rattle.chain.specs.Reading.{Link}
+use Rattle.chain.specs.Listing.{between, markedAll}
+use Rattle.chain.specs.Sound.{nodesOf, lastSlot as lastOf}
 use Rattle.chain.proofs.Finds.{found-at, none-at}
-use Rattle.rules.specs.Kits.{Kit, valueLength, headingLength}
+use Rattle.rules.specs.Kits.{Kit, headingLength}
 use Rattle.rules.specs.Tickets.{numberIn, headingIn, sealedIn}
-use Rattle.rules.specs.Writes.{Ran, through, failed}
+use Rattle.rules.specs.Writes.{through, failed}
 use Rattle.rules.specs.Files.{lastSlot, freeCount}
-use Rattle.rules.specs.Calls.{Sound, Outcome, kept, slotsLeast, countFits, readBy, redeemable, redeemVerdict, Hit, Seals, Ready, Untouched, Redeeming, declined, spent, shut, strange, full, cut, opened}
+use Rattle.rules.specs.Calls.{Sound, Outcome, kept, slotsLeast, countFits, readBy, redeemable, redeemVerdict, Seals, Ready, Untouched, Redeeming, declined, spent, shut, strange, full, cut, opened}
 use Rattle.puncture.specs.Puncturing.{Lengthwise, Given, Puncturing}
-use Rattle.puncture.proofs.Files.{Standing, sound-chain}
-use Rattle.redeeming.specs.Steps.{roomy, Entering, enters, short, unfit, Known, Surveying, known, halted, Met, Derived, Unsealing, noPlain, noRecord, aRecord, Spotted}
+use Rattle.puncture.proofs.Files.{sound-chain}
+use Rattle.redeeming.specs.Steps.{roomy, Entering, enters, short, unfit, Known, Surveying, tells, halted, Met, Derived, Unsealing, noPlain, noRecord, aRecord, Spotted}
 
 err-ok : {A B : Type 0} (a : A) (b : B) → _≡_ {A = Result A B} (Err b) (Ok a) → ⊥
 err-ok a b e = let z : _≡_ {A = ℕ} 0 1 = cc in omega arith
@@ -100,8 +99,8 @@ module _ {k : Kit} {d : ℕ} {s : Slots} {on : Bool} {ticket : List ℕ} {room c
     no-slot (noRecord plain p t e) lt = absurd (err-ok _ _ (sym e))
     no-slot (aRecord plain p t e q) lt = (false, full f front x back plain (z .hit) (seals plain p) t (omega (arith, free-is, calls-are)) (ap (λ (j : ℕ). Err (placed NoFreeSlot j)) en) still refl)
 
-    pub given : Lengthwise (k .expansion) → calls ≤ count - 1 - many → Given k d s on count found n row marks f front x back
-    given long le = record {
+    pub gives : Lengthwise (k .expansion) → calls ≤ count - 1 - many → Given k d s on count found n row marks f front x back
+    gives long le = record {
       power = z .power;
       size = z .size;
       file = z .reads;
@@ -153,17 +152,17 @@ pub record Apt (d : ℕ) (s : Slots) (room m n : ℕ) : Type 0 where
   pub wide : roomOf (length s) ≤ m
   pub some : 0 < length s
 
-pub apt : {d : ℕ} {s : Slots} {room m n : ℕ} → Entering d s room m (Ok n) → Apt d s room m n
-apt {d = d} {s = s} {room = room} {m = m} (enters n e l t c) =
+pub entered-apt : {d : ℕ} {s : Slots} {room m n : ℕ} → Entering d s room m (Ok n) → Apt d s room m n
+entered-apt {d = d} {s = s} {room = room} {m = m} (enters n e l t c) =
     let p = and-parts (leb mostLength room) (leb (roomOf (length s)) m) t in
     let q = and-parts (leb (slotsLeast d) (length s)) _ c in
     let i = ok-same e in
     record { size = i ∙ l; rooms = t; fits = c; large = leb-true _ _ (p .0); wide = leb-true _ _ (p .1); some = omega (arith, leb-true _ _ (q .0)) }
-apt (short e t) = absurd (err-ok _ _ (sym e))
-apt (unfit e t c) = absurd (err-ok _ _ (sym e))
+entered-apt (short e t) = absurd (err-ok _ _ (sym e))
+entered-apt (unfit e t c) = absurd (err-ok _ _ (sym e))
 
 pub surveyed : {k : Kit} {d : ℕ} {s : Slots} {on : Bool} {ticket : List ℕ} {m : ℕ} {v : Survey} {marks : List ℕ} → Surveying k d s on ticket m (Ok v) marks → (f : Sound) × Known k d s on ticket m v marks f
-surveyed {k = k} {d = d} {s = s} {on = on} {ticket = ticket} {m = m} {marks = marks} (known v f e c) =
+surveyed {k = k} {d = d} {s = s} {on = on} {ticket = ticket} {m = m} {marks = marks} (tells v f e c) =
     let i = ok-same e in (f, subst (λ (y : Survey). Known k d s on ticket m y marks f) (sym i) c)
 surveyed (halted h e q) = absurd (err-ok _ _ (sym e))
 
@@ -192,7 +191,7 @@ module _ (k : Kit) (d : ℕ) (s : Slots) (on : Bool) (ticket : List ℕ) (room m
     verdict-is = let r = a .rooms in let f = a .fits in rw (r, f)
 
     pub not-surveyed : {h : Halt} {r : Outcome} {marks : List ℕ} → r ≡ Err h → Surveying k d s on ticket m (Err h) marks → (joined : Bool) × Redeeming k d s on ticket room m r (zeros room) s on joined
-    not-surveyed q (known v f e c) = absurd (err-ok _ _ e)
+    not-surveyed q (tells v f e c) = absurd (err-ok _ _ e)
     not-surveyed {h = h} q (halted h′ e v) = (false, declined h (verdict-is ∙ v ∙ ap Err (sym (err-same e))) q still refl)
 
     module _ {v : Survey} {marks : List ℕ} (sv : Surveying k d s on ticket m (Ok v) marks) where
@@ -208,9 +207,9 @@ module _ (k : Kit) (d : ℕ) (s : Slots) (on : Bool) (ticket : List ℕ) (room m
                 (λ x i o. none-at d (numberIn ticket) 0 (f .1) (sym (c .finds) ∙ e) (x .node, in-nodes x (f .1) i, o)) q still refl,
           )
 
-      pub spotted : (found : Found) → v .found ≡ Some found → length marks ≡ m →
+      pub spots : (found : Found) → v .found ≡ Some found → length marks ≡ m →
           (f : Sound) × (front : List Link) × (x : Link) × (back : List Link) × Spotted k d s on ticket room n (v .length) found marks f front x back
-      spotted found e l =
+      spots found e l =
           let f = surveyed sv .0 in
           let c = surveyed sv .1 in
           let p = found-at d (numberIn ticket) 0 (f .1) found (sym (c .finds) ∙ e) in

@@ -2,7 +2,7 @@
 use Prim.Native.Nat.{ℕ, _+_, _-_, _*_, _<_, _≤_}
 use mathlib.Core.Path.{_≡_}
 use mathlib.Core.Bool.{Bool, true, false, _&&_}
-use mathlib.Core.List.{List, _∷_, _++_}
+use mathlib.Core.List.{List}
 use lib.Dec.{leb}
 use lib.ListN.{length}
 use Rattle.std.specs.declared.result.Result.{Result}
@@ -57,7 +57,7 @@ pub record Known (k : Kit) (d : ℕ) (s : Slots) (on : Bool) (ticket : List ℕ)
   pub marked : marks ≡ markedAll (zeros m) (f .1)
 
 pub data Surveying (k : Kit) (d : ℕ) (s : Slots) (on : Bool) (ticket : List ℕ) (m : ℕ) (r : Result Survey Halt) (marks : List ℕ) : Type 0 where
-  known : (v : Survey) (f : Sound) → r ≡ Ok v → Known k d s on ticket m v marks f → Surveying k d s on ticket m r marks
+  tells : (v : Survey) (f : Sound) → r ≡ Ok v → Known k d s on ticket m v marks f → Surveying k d s on ticket m r marks
   halted : (h : Halt) → r ≡ Err h → redeemable k ticket (readBy k d s on) ≡ Err h → Surveying k d s on ticket m r marks
 
 -- the record x, which stands over n, was found

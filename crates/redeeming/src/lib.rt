@@ -1,13 +1,14 @@
 //! Redeeming a ticket, over a device lent for the call.
 //!
 //! A state is given only once its number is spent on the device: all refusals come before the first write, and the answer after the last.
-ghost use Prim.Native.Nat.{ℕ, _*_, _<_, _≤_};
+ghost use Prim.Native.Nat.{_<_, _≤_};
 ghost use mathlib.Core.Path.{_≡_};
 ghost use mathlib.Core.Bool.{Bool};
 ghost use mathlib.Core.List.{List};
 ghost use lib.ListN.{length};
 ghost use Rattle.std.specs.declared.result.Result.the-variants.{Ok};
 ghost use Rattle.bytes.specs.Buffers.{zeros};
+ghost use Rattle.fault.specs.Faults.{placed};
 ghost use Rattle.session.specs.Limits.{mostLength};
 ghost use Rattle.layout.specs.Records.{valueOf};
 ghost use Rattle.tree.specs.Nodes.{treeLevels};
@@ -46,6 +47,17 @@ use tree::LEVELS;
 const NAME: usize = 16;
 
 const HEADING: usize = 20;
+
+// A refusal that speaks of a ticket number.
+fn of_number(refusal: Refusal, number: u32) -> Halt
+    ensures { λ r. ⌜ r ≡ placed refusal number ⌝ }
+{
+    Halt {
+        refusal,
+        place: number,
+        step: None,
+    }
+}
 
 // Whether buffers of so many bytes, for a state and for the marks, will do.
 fn is_roomy<D: ReadSlots>(d: &D, state: usize, marks: usize) -> bool
@@ -115,17 +127,13 @@ fn check_ticket(ticket: &[u8], head: &Head, overhead: usize) -> Result<(), Halt>
     }
     let number = get_u32(ticket, NAME);
     if number >= head.issued {
-        return Err(Halt {
-            refusal: Refusal::NotIssued,
-            place: number,
-            step: None,
-        });
+        return Err(of_number(Refusal::NotIssued, number));
     }
     Ok(())
 }
 
 // Reads the file for a ticket, marks the chain's slots, and checks the ticket against the head.
-fn survey_for<D: ReadSlots>(
+fn admit<D: ReadSlots>(
     d: &D,
     generator: u8,
     sealer: u8,
@@ -171,11 +179,7 @@ fn derive_key<D: ReadSlots, G: Generator>(
     copy_value(slot, key);
     match descend_keeping(g, LEVELS, &found.node, n, key, left, right, row) {
         Some(calls) => Ok(calls),
-        None => Err(Halt {
-            refusal: Refusal::Spent,
-            place: n,
-            step: None,
-        }),
+        None => Err(of_number(Refusal::Spent, n)),
     }
 }
 
@@ -197,19 +201,11 @@ fn open_ticket<S: Sealer>(
         Ok(opened) => match opened {
             Some(length) => {
                 if !is_record(&state[0..length]) {
-                    return Err(Halt {
-                        refusal: Refusal::OpenedNotARecord,
-                        place: number,
-                        step: None,
-                    });
+                    return Err(of_number(Refusal::OpenedNotARecord, number));
                 }
                 Ok(length)
             }
-            None => Err(Halt {
-                refusal: Refusal::SealBroken,
-                place: number,
-                step: None,
-            }),
+            None => Err(of_number(Refusal::SealBroken, number)),
         },
         Err(refusal) => Err(Halt {
             refusal,
@@ -239,11 +235,7 @@ fn spend<D: WriteSlots, G: Generator, S: Sealer>(
     let calls = derive_key(d, g, found, number, scratch)?;
     let length = open_ticket(s, ticket, &scratch.key, state, &mut scratch.pad)?;
     if u32::from(count).saturating_sub(1).saturating_sub(records) < calls {
-        return Err(Halt {
-            refusal: Refusal::NoFreeSlot,
-            place: number,
-            step: None,
-        });
+        return Err(of_number(Refusal::NoFreeSlot, number));
     }
     puncture(
         d,
@@ -270,7 +262,7 @@ fn redeem_in<D: WriteSlots, G: Generator, S: Sealer>(
     ensures { λ r. ⌜ ((joined : Bool) × Redeeming (kitOf (G·Generator .expansion (now (g .entry))) (G·Generator .code (now (g .entry))) (S·Sealer .sealing (now (s .entry))) (S·Sealer .overhead (now (s .entry))) (S·Sealer .number (now (s .entry)))) treeLevels (D·ReadSlots .slots (now (d .entry))) (D·ReadSlots .powered (now (d .entry))) (now (ticket .entry)) (length (now (state .entry))) (length (now (marks .entry))) r (kept r (length (now (state .entry))) (now (state .exit))) (D·ReadSlots .slots (now (d .exit))) (D·ReadSlots .powered (now (d .exit))) joined) ⌝ }
 {
     let count = enter(d, state.len(), marks.len())?;
-    let survey = survey_for(
+    let survey = admit(
         d,
         g.number(),
         s.number(),
@@ -280,11 +272,7 @@ fn redeem_in<D: WriteSlots, G: Generator, S: Sealer>(
         &mut scratch.slot,
     )?;
     let Some(found) = survey.found else {
-        return Err(Halt {
-            refusal: Refusal::Spent,
-            place: number_in(ticket),
-            step: None,
-        });
+        return Err(of_number(Refusal::Spent, number_in(ticket)));
     };
     spend(
         d,

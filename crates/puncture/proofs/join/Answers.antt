@@ -1,4 +1,4 @@
-use mathlib.Core.Path.{_≡_, ap, sym, _∙_, subst}
+use mathlib.Core.Path.{ap, _∙_, subst}
 use Rattle.fault.specs.declared.Step.the-variants.{Join}
 use Rattle.device.specs.Effects.{Slot}
 use Rattle.rules.specs.Writes.{writeOf, Stepped}

@@ -1,9 +1,8 @@
-use mathlib.Core.Path.{_≡_, sym, _∙_}
 use Rattle.std.specs.declared.option.Option.the-variants.{Some}
 use Rattle.std.proofs.shelf.Results.{err-from-errBy}
 use Rattle.tree.specs.Nodes.{treeLevels}
 use Rattle.redeeming.proofs.Checks.{survey-err, check-err, check-ok}
-use Rattle.redeeming.proofs.survey_for.Needs as need
+use Rattle.redeeming.proofs.admit.Needs as need
 
 pub returns-in-Break-survey : need.returns-in-Break-survey
 returns-in-Break-survey g c = λ k eg ew eo some wide.
