@@ -2,7 +2,7 @@
 //!
 //! A device means the row of its slots and whether its power is on. What each call does to these
 //! stands in specs/Effects.antt; every device, at the bottom or a layer above another, is proved to do just that.
-ghost use Rattle.std.specs.Prelude.{◌≡◌, ℕ, ◌<◌, Bool, List, [], length, slice_index_or};
+ghost use Rattle.std.specs.Prelude.{◌≡◌, ℕ, Bool, List, length};
 ghost use Rattle.device.specs.Effects.{Reading, Writing, Restarting, Tearing, blank};
 ghost use Rattle.device.specs.Refusals.{refusalOf};
 
@@ -45,8 +45,6 @@ pub trait ReadSlots {
     /// Copies a slot; zeros where it is declined.
     fn read(&self, index: usize, out: &mut [u8; 64]) -> Result<(), DeviceFault>
         ensures { Reading (slots self.now) (powered self.now) index result out.new };
-
-    ghost sized: { (d : Self) (k : ℕ) → k < length (slots d) → length (slice_index_or (slots d) k []) ≡ 64 };
 }
 
 /// A device whose writes are whole: a cut leaves a slot old or new.

@@ -5,8 +5,8 @@ use Rattle.device.specs.declared.DeviceFault.{DeviceFault}
 use Rattle.device.specs.Effects.{Slot, Slots, Answer, Tearing, torn, blank}
 use Rattle.journal.specs.Layout.{mostSlots, markIn, copyIn, placesIn, unusedIn, mark_of, pendingIn, view, shown}
 use Rattle.journal.specs.Steps.{Placing}
-use Rattle.journal.specs.Marks.{raised-target, torn-low, torn-raise, torn-clear}
-use Rattle.journal.specs.Views.{view-none, view-some, copy-mark, copy_places, mark-places, mark-copy, mark-shown, slot-mark, slot-copy, slot-places, failed, used, failed-unused}
+use Rattle.journal.proofs.Marks.{raised-target, torn-low, torn-raise, torn-clear}
+use Rattle.journal.proofs.Views.{view-none, view-some, copy-mark, copy_places, mark-places, mark-copy, mark-shown, slot-mark, slot-copy, slot-places, failed, used, failed-unused}
 
 -- slots t that came of s: their mark, the slots in their own places, and the copy
 pub record Stands (s t : Slots) (m : Slot) (b : Slots) (c : Slot) : Type 0 where

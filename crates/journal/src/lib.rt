@@ -4,10 +4,9 @@
 //! target. Where the flag is 1 the copy stands for the target; a write raises the flag only once copy and target are in place, and
 //! lowers it once the slot itself is written. A tear of any one of these writes leaves the old slot or the new one.
 ghost use Rattle.std.specs.Prelude.{◌≡◌, ◌+◌, ◌<◌, ◌≤◌, length, Some, None, Decides};
-ghost use Rattle.device.specs.Effects.{Writing, Restarting, blank, slotSize};
+ghost use Rattle.device.specs.Effects.{Writing, Restarting, blank};
 ghost use Rattle.journal.specs.Layout.{shown, mostSlots, markIn, pendingIn};
 ghost use Rattle.journal.specs.Steps.{Clearing, Placing, WritingBelow, RestartingBelow};
-ghost use Rattle.journal.specs.Wholes.{shown-sized};
 
 use device::{DeviceFault, ReadSlots, TearSlots, WriteSlots};
 
@@ -135,8 +134,6 @@ impl<D: ReadSlots> ReadSlots for Journal<D> {
     ghost slots = { λ s. shown (D.ReadSlots.slots s.below) };
 
     ghost powered = { λ s. D.ReadSlots.powered s.below };
-
-    ghost sized = { λ d k h. shown-sized slotSize (D.ReadSlots.slots d.below) (D.ReadSlots.sized d.below) k h };
 
     fn count(&self) -> usize {
         shown_count(&self.below)

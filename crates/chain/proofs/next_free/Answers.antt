@@ -6,6 +6,6 @@ use Rattle.chain.proofs.next_free.Goals as goal
 
 pub returns : goal.returns
 returns c = record {
-  is = c.first-unmarked.ensures ∙ ap (λ (k : ℕ). first_of (freeIn k c.args.count c.args.marks.now)) c.max.ensures;
+  is = c.first_unmarked.ensures ∙ ap (λ (k : ℕ). first_of (freeIn k c.args.count c.args.marks.now)) c.max.ensures;
   free = free-are;
 }

@@ -10,18 +10,18 @@ use Rattle.chain.proofs.Judging.{head-err, head_ok, asked_is, marks-declined, ma
 use Rattle.chain.proofs.read_marking.Goals as goal
 use Rattle.chain.proofs.read_marking.Goals.{in-Some, in-None}
 
-pub returns-in-err-head : goal.returns-in-err-head
-returns-in-err-head g c =
+pub returns-in_err-head : goal.returns-in_err-head
+returns-in_err-head g c =
     let s = g.D.ReadSlots.slots c.args.device.now in
     let on = g.D.ReadSlots.powered c.args.device.now in
     let m = length c.args.marks.now in
     let rd = reading_of 16 c.args.generator c.args.sealer m s on in
     let rooms : c.room.result ≡ roomOf (length s) = c.room.ensures ∙ ap roomOf c.count.ensures in
     let long : ltb m (roomOf (length s)) ≡ false = le-ltb _ _ (omega (arith, rooms, c.if-marks-room.false, c.clear.auto.b)) in
-    let p = err_from_is_err_and c.from-residual.result c.from-residual.ensures.1 in
-    let h = c.in-err-head.field-0.0 in
+    let p = err_from_is_err_and c.from_residual.result c.from_residual.ensures.1 in
+    let h = c.in_err-head.field-0.0 in
     let halt : p.0 ≡ h = p.2 in
-    let e : rd ≡ declined h = head-err 16 c.args.generator c.args.sealer m s on h long c.in-err-head.ensures in
+    let e : rd ≡ declined h = head-err 16 c.args.generator c.args.sealer m s on h long c.in_err-head.ensures in
     record {
       is = p.1 ∙ ap Err halt ∙ sym (ap (answer_of 16 c.args.asked) e);
       marks = c.clear.ensures ∙ sym (ap (marksOf m) e);
@@ -36,8 +36,8 @@ returns-in-Ok g c =
     let rd = reading_of 16 c.args.generator c.args.sealer m s on in
     let rooms : c.room.result ≡ roomOf (length s) = c.room.ensures ∙ ap roomOf c.count.ensures in
     let long : ltb m (roomOf (length s)) ≡ false = le-ltb _ _ (omega (arith, rooms, c.if-marks-room.false, c.clear.auto.b)) in
-    let h = c.in-ok-head.head in
-    let e = head_ok 16 c.args.generator c.args.sealer m s on h long c.in-ok-head.ensures in
+    let h = c.in_ok-head.head in
+    let e = head_ok 16 c.args.generator c.args.sealer m s on h long c.in_ok-head.ensures in
     let q : c.match-asked.wanted ≡ asked_of c.args.asked h = elim c.match-asked.branch [
       | in-Some w ↦ w.wanted-is ∙ ap (λ (o : Option ℕ). asked_of o h) (sym w.in-Some.is)
       | in-None w ↦ w.wanted-is ∙ ap (λ (o : Option ℕ). asked_of o h) (sym w.in-None.is)
@@ -60,8 +60,8 @@ returns g c =
     let rd = reading_of 16 c.args.generator c.args.sealer m s on in
     let rooms : c.room.result ≡ roomOf (length s) = c.room.ensures ∙ ap roomOf c.count.ensures in
     let long : ltb m (roomOf (length s)) ≡ false = le-ltb _ _ (omega (arith, rooms, c.if-marks-room.false, c.clear.auto.b)) in
-    let h = c.in-ok-head.head in
-    let e = head_ok 16 c.args.generator c.args.sealer m s on h long c.in-ok-head.ensures in
+    let h = c.in_ok-head.head in
+    let e = head_ok 16 c.args.generator c.args.sealer m s on h long c.in_ok-head.ensures in
     let q : c.match-asked.wanted ≡ asked_of c.args.asked h = elim c.match-asked.branch [
       | in-Some w ↦ w.wanted-is ∙ ap (λ (o : Option ℕ). asked_of o h) (sym w.in-Some.is)
       | in-None w ↦ w.wanted-is ∙ ap (λ (o : Option ℕ). asked_of o h) (sym w.in-None.is)

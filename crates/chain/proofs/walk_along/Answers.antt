@@ -16,67 +16,67 @@ returns-then-next-count g c =
     let w = walk 16 (suc (2 ^ 16)) s 0 None 0 c.args.head.now.first in
     let t = noneYet c.args.head.now.issued in
     let past : length s ≤ c.loop-next.next = subst (λ (k : ℕ). k ≤ c.loop-next.next) c.count-count.ensures c.if-next-count.true in
-    let is : Err c.bad-link.result ≡ tally_of 16 c.args.wanted t 0 w = ap Err c.bad-link.ensures ∙ sym (far c.loop-next.invariant.0 c.loop-next-test.true past) in
-    record { is = is; marks = λ xs q. no-chain 16 c.args.wanted t 0 w c.bad-link.result xs _ _ is q }
+    let is : Err c.bad_link.result ≡ tally_of 16 c.args.wanted t 0 w = ap Err c.bad_link.ensures ∙ sym (far c.loop-next.invariant.0 c.loop-next-test.true past) in
+    record { is = is; marks = λ xs q. no-chain 16 c.args.wanted t 0 w c.bad_link.result xs _ _ is q }
 
-pub returns-in-err-fields : goal.returns-in-err-fields
-returns-in-err-fields g c =
+pub returns-in_err-fields : goal.returns-in_err-fields
+returns-in_err-fields g c =
     let s = g.D.ReadSlots.slots c.args.device.now in
     let w = walk 16 (suc (2 ^ 16)) s 0 None 0 c.args.head.now.first in
     let t = noneYet c.args.head.now.issued in
     let i = c.loop-next.next in
     let here : i < length s = subst (λ (k : ℕ). i < k) c.count-count.ensures c.if-next-count.false in
-    let h = c.in-err-fields.field-0.0 in
-    let b = record-bad 16 s (g.D.ReadSlots.powered c.args.device.now) i h c.requires here c.in-err-fields.ensures in
-    let p = err_from_is_err_and c.from-residual.result c.from-residual.ensures.1 in
+    let h = c.in_err-fields.field-0.0 in
+    let b = record-bad 16 s (g.D.ReadSlots.powered c.args.device.now) i h c.requires here c.in_err-fields.ensures in
+    let p = err_from_is_err_and c.from_residual.result c.from_residual.ensures.1 in
     let e = spoilt c.loop-next.invariant.0 c.loop-next-test.true here b.0 in
     let halt : p.0 ≡ h = p.2 in
     let is : Err p.0 ≡ tally_of 16 c.args.wanted t 0 w = ap Err (halt ∙ b.1) ∙ sym e in
     record { is = p.1 ∙ is; marks = λ xs q. no-chain 16 c.args.wanted t 0 w p.0 xs _ _ is q }
 
-pub may-follow-requires : goal.may-follow-requires
-may-follow-requires g c =
+pub may_follow-requires : goal.may_follow-requires
+may_follow-requires g c =
     let s = g.D.ReadSlots.slots c.args.device.now in
     let i = c.loop-next.next in
-    let f = c.in-ok-fields.fields in
+    let f = c.in_ok-fields.fields in
     let here : i < length s = subst (λ (k : ℕ). i < k) c.count-count.ensures c.if-next-count.false in
-    let ok = record-good 16 s (g.D.ReadSlots.powered c.args.device.now) i f c.requires here c.in-ok-fields.ensures in
+    let ok = record-good 16 s (g.D.ReadSlots.powered c.args.device.now) i f c.requires here c.in_ok-fields.ensures in
     (c.loop-next.invariant.0.preceding, tested-node 16 f.depth f.first (laid 16 (get_or s i []) f ok).node)
 
-pub returns-then-not-may-follow : goal.returns-then-not-may-follow
-returns-then-not-may-follow g c =
+pub returns-then-not-may_follow : goal.returns-then-not-may_follow
+returns-then-not-may_follow g c =
     let s = g.D.ReadSlots.slots c.args.device.now in
     let w = walk 16 (suc (2 ^ 16)) s 0 None 0 c.args.head.now.first in
     let t = noneYet c.args.head.now.issued in
     let i = c.loop-next.next in
-    let f = c.in-ok-fields.fields in
+    let f = c.in_ok-fields.fields in
     let here : i < length s = subst (λ (k : ℕ). i < k) c.count-count.ensures c.if-next-count.false in
-    let ok = record-good 16 s (g.D.ReadSlots.powered c.args.device.now) i f c.requires here c.in-ok-fields.ensures in
-    let e = misplaced c.loop-next.invariant.0 f c.loop-next-test.true here ok (sym c.may-follow.ensures ∙ c.if-not-may-follow.true) in
-    let r = c.bad-link-then-not-may-follow.result in
-    let is : Err r ≡ tally_of 16 c.args.wanted t 0 w = ap Err c.bad-link-then-not-may-follow.ensures ∙ sym e in
+    let ok = record-good 16 s (g.D.ReadSlots.powered c.args.device.now) i f c.requires here c.in_ok-fields.ensures in
+    let e = misplaced c.loop-next.invariant.0 f c.loop-next-test.true here ok (sym c.may_follow.ensures ∙ c.if-not-may_follow.true) in
+    let r = c.bad_link-then-not-may_follow.result in
+    let is : Err r ≡ tally_of 16 c.args.wanted t 0 w = ap Err c.bad_link-then-not-may_follow.ensures ∙ sym e in
     record { is = is; marks = λ xs q. no-chain 16 c.args.wanted t 0 w r xs _ _ is q }
 
 pub with-more-requires : goal.with-more-requires
 with-more-requires g c =
     let s = g.D.ReadSlots.slots c.args.device.now in
     let i = c.loop-next.next in
-    let f = c.in-ok-fields.fields in
+    let f = c.in_ok-fields.fields in
     let here : i < length s = subst (λ (k : ℕ). i < k) c.count-count.ensures c.if-next-count.false in
-    let ok = record-good 16 s (g.D.ReadSlots.powered c.args.device.now) i f c.requires here c.in-ok-fields.ensures in
+    let ok = record-good 16 s (g.D.ReadSlots.powered c.args.device.now) i f c.requires here c.in_ok-fields.ensures in
     let node : IsNode 16 (nodeAt f.depth f.first) = tested-node 16 f.depth f.first (laid 16 (get_or s i []) f ok).node in
-    let start : c.loop-next.from ≤ f.first = leb-true _ _ (and_parts (leb c.loop-next.from f.first) _ (sym c.may-follow.ensures ∙ c.if-not-may-follow.false)).0 in
+    let start : c.loop-next.from ≤ f.first = leb-true _ _ (and_parts (leb c.loop-next.from f.first) _ (sym c.may_follow.ensures ∙ c.if-not-may_follow.false)).0 in
     (node, omega (arith, c.loop-next.invariant.0.few, node.inside))
 
 pub loop-next-smaller : goal.loop-next-smaller
 loop-next-smaller g c =
     let s = g.D.ReadSlots.slots c.args.device.now in
     let i = c.loop-next.next in
-    let f = c.in-ok-fields.fields in
+    let f = c.in_ok-fields.fields in
     let here : i < length s = subst (λ (k : ℕ). i < k) c.count-count.ensures c.if-next-count.false in
-    let ok = record-good 16 s (g.D.ReadSlots.powered c.args.device.now) i f c.requires here c.in-ok-fields.ensures in
+    let ok = record-good 16 s (g.D.ReadSlots.powered c.args.device.now) i f c.requires here c.in_ok-fields.ensures in
     let node : IsNode 16 (nodeAt f.depth f.first) = tested-node 16 f.depth f.first (laid 16 (get_or s i []) f ok).node in
-    let start : c.loop-next.from ≤ f.first = leb-true _ _ (and_parts (leb c.loop-next.from f.first) _ (sym c.may-follow.ensures ∙ c.if-not-may-follow.false)).0 in
+    let start : c.loop-next.from ≤ f.first = leb-true _ _ (and_parts (leb c.loop-next.from f.first) _ (sym c.may_follow.ensures ∙ c.if-not-may_follow.false)).0 in
     let width = c.width.ensures.within (omega arith) node.shallow in
     let a = end-within 16 (nodeAt f.depth f.first) node in
     let b = end_after 16 (nodeAt f.depth f.first) in
@@ -86,15 +86,15 @@ pub loop-next-preserved : goal.loop-next-preserved
 loop-next-preserved g c =
     let s = g.D.ReadSlots.slots c.args.device.now in
     let i = c.loop-next.next in
-    let f = c.in-ok-fields.fields in
+    let f = c.in_ok-fields.fields in
     let here : i < length s = subst (λ (k : ℕ). i < k) c.count-count.ensures c.if-next-count.false in
-    let ok = record-good 16 s (g.D.ReadSlots.powered c.args.device.now) i f c.requires here c.in-ok-fields.ensures in
+    let ok = record-good 16 s (g.D.ReadSlots.powered c.args.device.now) i f c.requires here c.in_ok-fields.ensures in
     let node : IsNode 16 (nodeAt f.depth f.first) = tested-node 16 f.depth f.first (laid 16 (get_or s i []) f ok).node in
-    let may : mayFollow 16 c.loop-next.from c.loop-next.before (nodeAt f.depth f.first) ≡ true = sym c.may-follow.ensures ∙ c.if-not-may-follow.false in (
+    let may : mayFollow 16 c.loop-next.from c.loop-next.before (nodeAt f.depth f.first) ≡ true = sym c.may_follow.ensures ∙ c.if-not-may_follow.false in (
       renamed (f.first + c.width.result) c.with-more.result c.mark.new.row
           (ap (λ (k : ℕ). f.first + k) (c.width.ensures.within (omega arith) node.shallow)) c.with-more.ensures c.mark.ensures.is
           (onward c.loop-next.invariant.0 f c.loop-next-test.true here ok may),
-      c.read-record.array_long,
+      c.read_record.array_long,
     )
 
 pub returns : goal.returns

@@ -4,11 +4,11 @@ use Rattle.tree.specs.Values.{bit, way, follow}
 use Rattle.generator.proofs.Rows.{laid, laid-left, laid-right, laid-all, walked, turned-to}
 use Rattle.generator.proofs.keep_siblings.Goals as goal
 
-pub put-value-requires : goal.put-value-requires
-put-value-requires g c = omega arith
+pub put_value-requires : goal.put_value-requires
+put_value-requires g c = omega arith
 
-pub loop-lo-preserved-then-to-right : goal.loop-lo-preserved-then-to-right
-loop-lo-preserved-then-to-right g c =
+pub loop-lo-preserved-then-to_right : goal.loop-lo-preserved-then-to_right
+loop-lo-preserved-then-to_right g c =
     let x = g.G.Generator.expansion c.args.g.now in
     let lo = c.loop-lo.lo in
     let hi = c.loop-lo.hi in
@@ -17,11 +17,11 @@ loop-lo-preserved-then-to-right g c =
     let row = c.loop-lo.row in
     let i = c.loop-lo.invariant in
     let l : lo < hi = c.loop-lo-test.true in
-    let b : bit (hi - lo - 1) n ≡ true = eq-eqb _ _ c.if-to-right.true in
+    let b : bit (hi - lo - 1) n ≡ true = eq-eqb _ _ c.if-to_right.true in
     let w = walked x v c.turn.new.value n (hi - lo) (hi - (lo + 1)) (omega arith) (omega arith) c.turn.ensures.child in
     let t = turned-to x v c.turn.new.value n (hi - lo - 1) true b c.turn.ensures.child in
-    let r = laid-right x row v c.turn.new.left n lo hi l i.1 i.2 c.turn.array-long2 c.turn.ensures.one b in
-    (omega arith, i.1, c.put-value.array_long, w ∙ i.3, ap₂ (λ (a u : List ℕ). laid x a u n (lo + 1) hi) c.put-value.ensures t ∙ r ∙ i.4)
+    let r = laid-right x row v c.turn.new.left n lo hi l i.1 i.2 c.turn.array_long2 c.turn.ensures.one b in
+    (omega arith, i.1, c.put_value.array_long, w ∙ i.3, ap₂ (λ (a u : List ℕ). laid x a u n (lo + 1) hi) c.put_value.ensures t ∙ r ∙ i.4)
 
 pub loop-lo-preserved : goal.loop-lo-preserved
 loop-lo-preserved g c =
@@ -33,11 +33,11 @@ loop-lo-preserved g c =
     let row = c.loop-lo.row in
     let i = c.loop-lo.invariant in
     let l : lo < hi = c.loop-lo-test.true in
-    let b : bit (hi - lo - 1) n ≡ false = ne_eqb _ _ c.if-to-right.false in
+    let b : bit (hi - lo - 1) n ≡ false = ne_eqb _ _ c.if-to_right.false in
     let w = walked x v c.turn.new.value n (hi - lo) (hi - 1 - lo) (omega arith) (omega arith) c.turn.ensures.child in
     let t = turned-to x v c.turn.new.value n (hi - lo - 1) false b c.turn.ensures.child in
-    let r = laid-left x row v c.turn.new.right n lo hi l i.1 i.2 c.turn.array-long3 c.turn.ensures.two b in
-    (omega arith, omega arith, c.put-value-else-to-right.array_long, w ∙ i.3, ap₂ (λ (a u : List ℕ). laid x a u n lo (hi - 1)) c.put-value-else-to-right.ensures t ∙ r ∙ i.4)
+    let r = laid-left x row v c.turn.new.right n lo hi l i.1 i.2 c.turn.array_long3 c.turn.ensures.two b in
+    (omega arith, omega arith, c.put_value-else-to_right.array_long, w ∙ i.3, ap₂ (λ (a u : List ℕ). laid x a u n lo (hi - 1)) c.put_value-else-to_right.ensures t ∙ r ∙ i.4)
 
 pub returns : goal.returns
 returns g c =

@@ -5,4 +5,4 @@ use Rattle.generator.proofs.put_value.Goals as goal
 pub returns : goal.returns
 returns c =
     let k = c.args.k in
-    put_mid-paste (32 * k) (32 * k + 32 - 32 * k) c.args.row.now c.copy-from-slice.new.self c.args.value.now 32 c.copy-from-slice.ensures.after (omega arith) (sym c.told-value)
+    put_mid-paste (32 * k) (32 * k + 32 - 32 * k) c.args.row.now c.copy_from_slice.new.self c.args.value.now 32 c.copy_from_slice.ensures.after (omega arith) (sym c.told-value)

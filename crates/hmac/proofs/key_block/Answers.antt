@@ -3,7 +3,7 @@ use Rattle.hmac.proofs.Macs.{short-block, long-block}
 use Rattle.hmac.proofs.key_block.Goals as goal
 
 pub returns : goal.returns
-returns c = short-block c.args.key.now _ c.if-key-gt64.false c.copy-from-slice.ensures.after
+returns c = short-block c.args.key.now _ c.if-key-gt64.false c.copy_from_slice.ensures.after
 
 pub returns-then-key-gt64 : goal.returns-then-key-gt64
-returns-then-key-gt64 c = long-block c.args.key.now _ c.if-key-gt64.true (c.finish-block.ensures _ (c.update.ensures [] c.new-h.ensures))
+returns-then-key-gt64 c = long-block c.args.key.now _ c.if-key-gt64.true (c.finish_block.ensures _ (c.update.ensures [] c.new-h.ensures))

@@ -5,4 +5,4 @@ use Rattle.issuing.proofs.copy_value.Goals as goal
 
 pub returns : goal.returns
 unfolding value_of
-returns c = c.copy-from-slice.ensures.after ∙ take_all 32 (drop 32 c.args.slot.now) (simp length-drop (omega arith))
+returns c = c.copy_from_slice.ensures.after ∙ take_all 32 (drop 32 c.args.slot.now) (simp length-drop (omega arith))

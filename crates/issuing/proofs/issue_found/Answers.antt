@@ -3,8 +3,8 @@ use Rattle.std.proofs.lemmas.Result.{err_from_is_err_and}
 use Rattle.issuing.proofs.Ended.{head-cut}
 use Rattle.issuing.proofs.issue_found.Goals as goal
 
-pub returns-in-err-write-at : goal.returns-in-err-write-at
-returns-in-err-write-at g c =
-    let p = err_from_is_err_and c.from-residual.result c.from-residual.ensures.1 in
+pub returns-in_err-write_at : goal.returns-in_err-write_at
+returns-in_err-write_at g c =
+    let p = err_from_is_err_and c.from_residual.result c.from_residual.ensures.1 in
     let some : 0 < length (g.D.ReadSlots.slots c.args.d.now) = omega (arith, c.requires.within) in
-    rw (p.1, p.2) (head-cut _ _ _ _ _ _ _ _ _ _ _ _ some c.next-head.ensures c.in-err-write-at.ensures)
+    rw (p.1, p.2) (head-cut _ _ _ _ _ _ _ _ _ _ _ _ some c.next_head.ensures c.in_err-write_at.ensures)

@@ -13,4 +13,4 @@ was_read s on i (Err NoPower) out h o d = let z : ◌≡◌ {A = ℕ} 0 1 = cc d
 pub returns : goal.returns
 returns g c =
     let e = was_read _ _ _ _ _ c.requires.0 c.requires.1.0 c.read.ensures in
-    c.put-u32.ensures ∙ counted-in (c.args.issued + 1) _ ∙ ap (recounted (c.args.issued + 1)) e
+    c.put_u32.ensures ∙ counted-in (c.args.issued + 1) _ ∙ ap (recounted (c.args.issued + 1)) e

@@ -1,20 +1,20 @@
 use Rattle.std.proofs.Common.{◌≡◌, ◌+◌, ◌<◌, ◌≤◌, length, set, Some, sym, ap, ◌∙◌, arith}
 use Rattle.std.proofs.lemmas.Result.{err_from_is_err_and}
 use Rattle.journal.specs.Layout.{placesIn, markIn, pendingIn, delivered}
-use Rattle.journal.specs.Views.{length-shown, length-places}
-use Rattle.journal.specs.Clearings.{delivered-in, delivered-out, cut-delivery, end-clearing}
+use Rattle.journal.proofs.Views.{length-shown, length-places}
+use Rattle.journal.proofs.Clearings.{delivered-in, delivered-out, cut-delivery, end-clearing}
 use Rattle.journal.proofs.clear.Goals as goal
 use Rattle.journal.proofs.clear.Goals.{then-target-shown_count+in_ok-write, else-target-shown_count}
 
-pub returns-in-err-write : goal.returns-in-err-write
-returns-in-err-write g c =
+pub returns-in_err-write : goal.returns-in_err-write
+returns-in_err-write g c =
     let s = g.D.ReadSlots.slots c.args.d.now in
     let i = c.in-Some.target in
-    let a = c.in-ok-read.ensures in
+    let a = c.in_ok-read.ensures in
     let is : pendingIn (markIn s) ≡ Some i = ap pendingIn (sym a.2) ∙ sym c.in-Some.ensures in
     let held : i < length (placesIn s) = omega (arith, length-shown s, length-places s) in
-    let p = err_from_is_err_and c.from-residual-in-err-write.result c.from-residual-in-err-write.ensures.1 in
-    rw (p.1, p.2) (cut-delivery s i is c.requires _ _ _ _ _ a.1 held c.in-err-write.ensures)
+    let p = err_from_is_err_and c.from_residual-in_err-write.result c.from_residual-in_err-write.ensures.1 in
+    rw (p.1, p.2) (cut-delivery s i is c.requires _ _ _ _ _ a.1 held c.in_err-write.ensures)
 
 pub returns : goal.returns
 returns g c =

@@ -5,41 +5,41 @@ use Rattle.journal.specs.Layout.{mark_of}
 use Rattle.journal.proofs.Placings as placings
 use Rattle.journal.proofs.place.Goals as goal
 
-pub returns-in-err-write : goal.returns-in-err-write
-returns-in-err-write g c =
-    let p = err_from_is_err_and c.from-residual.result c.from-residual.ensures.1 in
+pub returns-in_err-write : goal.returns-in_err-write
+returns-in_err-write g c =
+    let p = err_from_is_err_and c.from_residual.result c.from_residual.ensures.1 in
     let pre = c.requires in
-    rw (p.1, p.2) (placings.cut-copy _ _ _ pre.0 pre.1.0 pre.1.1 _ _ _ _ c.in-err-write.ensures)
+    rw (p.1, p.2) (placings.cut-copy _ _ _ pre.0 pre.1.0 pre.1.1 _ _ _ _ c.in_err-write.ensures)
 
-pub returns-in-err-write-2 : goal.returns-in-err-write-2
-returns-in-err-write-2 g c =
-    let p = err_from_is_err_and c.from-residual-in-err-write-2.result c.from-residual-in-err-write-2.ensures.1 in
+pub returns-in_err-write-2 : goal.returns-in_err-write-2
+returns-in_err-write-2 g c =
+    let p = err_from_is_err_and c.from_residual-in_err-write-2.result c.from_residual-in_err-write-2.ensures.1 in
     let pre = c.requires in
-    let a = c.in-ok-write.ensures in
+    let a = c.in_ok-write.ensures in
     let u = placings.copied _ _ _ pre.0 pre.1.0 pre.1.1 _ a.2 in
-    rw (p.1, p.2) (placings.cut-target _ _ _ pre.0 pre.1.0 pre.1.1 _ (g.D.ReadSlots.powered c.args.d.now) _ _ _ _ u c.in-err-write-2.ensures)
+    rw (p.1, p.2) (placings.cut-target _ _ _ pre.0 pre.1.0 pre.1.1 _ (g.D.ReadSlots.powered c.args.d.now) _ _ _ _ u c.in_err-write-2.ensures)
 
-pub returns-in-err-write-3 : goal.returns-in-err-write-3
-returns-in-err-write-3 g c =
-    let p = err_from_is_err_and c.from-residual-in-err-write-3.result c.from-residual-in-err-write-3.ensures.1 in
+pub returns-in_err-write-3 : goal.returns-in_err-write-3
+returns-in_err-write-3 g c =
+    let p = err_from_is_err_and c.from_residual-in_err-write-3.result c.from_residual-in_err-write-3.ensures.1 in
     let pre = c.requires in
-    let a = c.in-ok-write.ensures in
-    let b = c.in-ok-write-2.ensures in
+    let a = c.in_ok-write.ensures in
+    let b = c.in_ok-write-2.ensures in
     let u = placings.copied _ _ _ pre.0 pre.1.0 pre.1.1 _ a.2 in
     let v = placings.targeted _ _ _ pre.0 pre.1.0 pre.1.1 _ _ u b.2 in
-    rw (p.1, p.2) (placings.cut-flag _ _ _ pre.0 pre.1.0 pre.1.1 _ (g.D.ReadSlots.powered c.args.d.now) _ _ _ _ v c.in-err-write-3.ensures)
+    rw (p.1, p.2) (placings.cut-flag _ _ _ pre.0 pre.1.0 pre.1.1 _ (g.D.ReadSlots.powered c.args.d.now) _ _ _ _ v c.in_err-write-3.ensures)
 
-pub returns-in-err-write-4 : goal.returns-in-err-write-4
-returns-in-err-write-4 g c =
-    let p = err_from_is_err_and c.from-residual-in-err-write-4.result c.from-residual-in-err-write-4.ensures.1 in
+pub returns-in_err-write-4 : goal.returns-in_err-write-4
+returns-in_err-write-4 g c =
+    let p = err_from_is_err_and c.from_residual-in_err-write-4.result c.from_residual-in_err-write-4.ensures.1 in
     let pre = c.requires in
-    let a = c.in-ok-write.ensures in
-    let b = c.in-ok-write-2.ensures in
-    let d = c.in-ok-write-3.ensures in
+    let a = c.in_ok-write.ensures in
+    let b = c.in_ok-write-2.ensures in
+    let d = c.in_ok-write-3.ensures in
     let u = placings.copied _ _ _ pre.0 pre.1.0 pre.1.1 _ a.2 in
     let v = placings.targeted _ _ _ pre.0 pre.1.0 pre.1.1 _ _ u b.2 in
     let w = placings.flagged _ _ _ pre.0 pre.1.0 pre.1.1 _ _ v d.2 in
-    rw (p.1, p.2) (placings.cut-slot _ _ _ pre.0 pre.1.0 pre.1.1 _ (g.D.ReadSlots.powered c.args.d.now) _ _ _ _ w c.in-err-write-4.ensures)
+    rw (p.1, p.2) (placings.cut-slot _ _ _ pre.0 pre.1.0 pre.1.1 _ (g.D.ReadSlots.powered c.args.d.now) _ _ _ _ w c.in_err-write-4.ensures)
 
 pub returns : goal.returns
 returns g c =

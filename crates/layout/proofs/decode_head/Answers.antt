@@ -5,7 +5,7 @@ use Rattle.layout.specs.Records.{part, allZero, head_of}
 use Rattle.layout.proofs.Powers.{shifted, whole-leb}
 use Rattle.layout.proofs.Trips.{head-trip}
 use Rattle.layout.proofs.decode_head.Goals as goal
-use Rattle.layout.proofs.decode_head.Goals.{then-slot-ne-HEAD-via-then-slot-ne-HEAD, then-slot-ne-HEAD-via-else-slot-ne-HEAD+then-slot-levels, then-not-is-blank-via-then-not-is-blank, then-not-is-blank-via-else-not-is-blank+then-not-is-blank-2}
+use Rattle.layout.proofs.decode_head.Goals.{then-slot-ne-HEAD-via-then-slot-ne-HEAD, then-slot-ne-HEAD-via-else-slot-ne-HEAD+then-slot-levels, then-not-is_blank-via-then-not-is_blank, then-not-is_blank-via-else-not-is_blank+then-not-is_blank-2}
 
 pub returns-then-slot-ne-HEAD : goal.returns-then-slot-ne-HEAD
 unfolding head_of
@@ -21,19 +21,19 @@ returns-then-slot-ne-HEAD c = record {
   trip = head-trip;
 }
 
-pub returns-then-not-is-blank : goal.returns-then-not-is-blank
+pub returns-then-not-is_blank : goal.returns-then-not-is_blank
 unfolding head_of
-returns-then-not-is-blank c =
+returns-then-not-is_blank c =
     let bs = c.args.slot.now in
     let t : eqb (get_or bs 0 0) 1 ≡ true = eq-eqb _ _ c.if-slot-ne-HEAD.false in
     let u : eqb (get_or bs 1 0) c.args.levels ≡ true = eq-eqb _ _ c.if-slot-levels.false in
     record {
-      is = elim c.then-not-is-blank.branch [
-        | then-not-is-blank-via-then-not-is-blank w ↦
-            let z : allZero (part 2 2 bs) ≡ false = sym c.is-blank.ensures ∙ w.if-not-is-blank.true in rw (t, u, z)
-        | then-not-is-blank-via-else-not-is-blank+then-not-is-blank-2 w ↦
-            let z : allZero (part 2 2 bs) ≡ true = sym c.is-blank.ensures ∙ w.if-not-is-blank.false in
-            let y : allZero (part 28 36 bs) ≡ false = sym w.is-blank-else-not-is-blank.ensures ∙ w.if-not-is-blank-2.true in
+      is = elim c.then-not-is_blank.branch [
+        | then-not-is_blank-via-then-not-is_blank w ↦
+            let z : allZero (part 2 2 bs) ≡ false = sym c.is_blank.ensures ∙ w.if-not-is_blank.true in rw (t, u, z)
+        | then-not-is_blank-via-else-not-is_blank+then-not-is_blank-2 w ↦
+            let z : allZero (part 2 2 bs) ≡ true = sym c.is_blank.ensures ∙ w.if-not-is_blank.false in
+            let y : allZero (part 28 36 bs) ≡ false = sym w.is_blank-else-not-is_blank.ensures ∙ w.if-not-is_blank-2.true in
             rw (t, u, z, y)
       ];
       trip = head-trip;
@@ -71,5 +71,5 @@ returns c =
     let few : leb (number_of (part 6 4 bs)) (2 ^ d) ≡ true =
     ap (λ (k : ℕ). leb k (2 ^ d)) (sym c.get_u32-issued.ensures)
     ∙ sym (whole-leb d 32 n c.min.result c.min.ensures c.get_u32-issued.type_inv) ∙ less in
-    let named : c.copy-from-slice.new.self ≡ part 10 16 bs = c.copy-from-slice.ensures.after in
-    record { is = rw (t, u, z, y, few, c.get-u16.ensures, c.get_u32-issued.ensures, named); trip = head-trip }
+    let named : c.copy_from_slice.new.self ≡ part 10 16 bs = c.copy_from_slice.ensures.after in
+    record { is = rw (t, u, z, y, few, c.get_u16.ensures, c.get_u32-issued.ensures, named); trip = head-trip }

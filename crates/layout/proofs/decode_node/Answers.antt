@@ -22,15 +22,15 @@ returns-then-slot-ne-NODE c =
       trip = node-trip;
     }
 
-pub returns-then-not-begins-node : goal.returns-then-not-begins-node
+pub returns-then-not-begins_node : goal.returns-then-not-begins_node
 unfolding node_of
-returns-then-not-begins-node c =
+returns-then-not-begins_node c =
     let bs = c.args.slot.now in
     let d = c.args.levels in
     let t : eqb (get_or bs 0 0) 2 ≡ true = eq-eqb _ _ c.if-slot-ne-NODE.false in
-    let z : allZero (part 6 26 bs) ≡ true = sym c.is-blank.ensures ∙ c.if-not-is-blank.false in
+    let z : allZero (part 6 26 bs) ≡ true = sym c.is_blank.ensures ∙ c.if-not-is_blank.false in
     let x : isNode d (get_or bs 1 0) (number_of (part 2 2 bs)) ≡ false =
-    ap (λ (k : ℕ). isNode d (get_or bs 1 0) k) (sym c.get-u16-first.ensures) ∙ sym c.begins-node.ensures ∙ c.if-not-begins-node.true in
+    ap (λ (k : ℕ). isNode d (get_or bs 1 0) k) (sym c.get_u16-first.ensures) ∙ sym c.begins_node.ensures ∙ c.if-not-begins_node.true in
     record { is = rw (t, z, x); trip = node-trip }
 
 pub returns : goal.returns

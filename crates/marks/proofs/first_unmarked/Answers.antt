@@ -3,11 +3,11 @@ use Rattle.marks.specs.Rows.{isMarked, unmarked, listed, first_of}
 use Rattle.marks.proofs.Laws.{unmarked-more}
 use Rattle.marks.proofs.first_unmarked.Goals as goal
 
-pub returns-then-not-is-marked : goal.returns-then-not-is-marked
-returns-then-not-is-marked c =
+pub returns-then-not-is_marked : goal.returns-then-not-is_marked
+returns-then-not-is_marked c =
     let row = c.args.row.now in
     let i = c.loop-slot.slot in
-    let f : isMarked row i ≡ false = sym c.is-marked.ensures.is ∙ c.if-not-is-marked.true in
+    let f : isMarked row i ≡ false = sym c.is_marked.ensures.is ∙ c.if-not-is_marked.true in
     sym (sym c.loop-slot.invariant ∙ ap first_of (unmarked-more row i c.args.end c.loop-slot-test.true) ∙ rw f)
 
 pub loop-slot-preserved : goal.loop-slot-preserved

@@ -9,14 +9,14 @@ use Rattle.opening.proofs.blank_all.Goals as goal
 pub loop-i-init : goal.loop-i-init
 loop-i-init g c = ran-none _ _ _ refl c.requires.1
 
-pub returns-in-err-write-at : goal.returns-in-err-write-at
-returns-in-err-write-at g c =
-    let p = err_from_is_err_and c.from-residual.result c.from-residual.ensures.1 in
+pub returns-in_err-write_at : goal.returns-in_err-write_at
+returns-in_err-write_at g c =
+    let p = err_from_is_err_and c.from_residual.result c.from_residual.ensures.1 in
     let lt : c.loop-i.i < c.args.count = omega arith in
     let h : c.loop-i.i < length (g.D.ReadSlots.slots c.args.d.now) = omega arith in
-    rw (p.1, p.2) (ran-as (sym (blank-around c.args.count c.loop-i.i lt)) (ran-cut _ (ran-next (writeOf c.loop-i.i blank Make) c.loop-i.invariant h c.in-err-write-at.ensures)))
+    rw (p.1, p.2) (ran-as (sym (blank-around c.args.count c.loop-i.i lt)) (ran-cut _ (ran-next (writeOf c.loop-i.i blank Make) c.loop-i.invariant h c.in_err-write_at.ensures)))
 
 pub loop-i-preserved : goal.loop-i-preserved
 loop-i-preserved g c =
     let h : c.loop-i.i < length (g.D.ReadSlots.slots c.args.d.now) = omega arith in
-    ran-as (sym (blank-more c.loop-i.i)) (ran-next (writeOf c.loop-i.i blank Make) c.loop-i.invariant h c.in-ok-write-at.ensures)
+    ran-as (sym (blank-more c.loop-i.i)) (ran-next (writeOf c.loop-i.i blank Make) c.loop-i.invariant h c.in_ok-write_at.ensures)

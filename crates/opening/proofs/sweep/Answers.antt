@@ -6,17 +6,17 @@ use Rattle.opening.proofs.sweep.Goals as goal
 pub loop-i-init : goal.loop-i-init
 loop-i-init g c = let pre = c.requires in (pre.1, refl, λ xs e long. sofar-none _ xs _ pre.1)
 
-pub returns-in-err-sweep-slot : goal.returns-in-err-sweep-slot
-returns-in-err-sweep-slot g c =
-    let p = err_from_is_err_and c.from-residual.result c.from-residual.ensures.1 in
+pub returns-in_err-sweep_slot : goal.returns-in_err-sweep_slot
+returns-in_err-sweep_slot g c =
+    let p = err_from_is_err_and c.from_residual.result c.from_residual.ensures.1 in
     let pre = c.requires in
     let i = c.loop-i.i in
-    λ xs e long. rw (p.1, p.2) (swept-cut _ _ _ xs _ _ (swept-more _ _ _ _ _ c.args.marks.now xs c.args.count i _ pre.0 c.loop-i.auto.i c.loop-i-test.true e long (c.loop-i.invariant.2 xs e long) c.in-err-sweep-slot.ensures))
+    λ xs e long. rw (p.1, p.2) (swept-cut _ _ _ xs _ _ (swept-more _ _ _ _ _ c.args.marks.now xs c.args.count i _ pre.0 c.loop-i.auto.i c.loop-i-test.true e long (c.loop-i.invariant.2 xs e long) c.in_err-sweep_slot.ensures))
 
 pub loop-i-preserved : goal.loop-i-preserved
 loop-i-preserved g c =
     let pre = c.requires in
-    let ran = c.in-ok-sweep-slot.ensures in (
+    let ran = c.in_ok-sweep_slot.ensures in (
       ran_on ran,
       ran-long ran ∙ c.loop-i.invariant.1,
       λ xs e long. swept-more _ _ _ _ _ c.args.marks.now xs c.args.count c.loop-i.i _ pre.0 c.loop-i.auto.i c.loop-i-test.true e long (c.loop-i.invariant.2 xs e long) ran,

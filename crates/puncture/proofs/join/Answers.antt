@@ -8,6 +8,6 @@ use Rattle.puncture.proofs.join.Goals as goal
 
 pub returns : goal.returns
 returns g c = λ h o.
-    let r = c.in-ok-read-at.ensures in
-    subst (λ (b : Slot). Stepped (g.D.ReadSlots.slots c.args.d.now) (g.D.ReadSlots.powered c.args.d.now) (writeOf c.args.before b Join) c.write-at.result (g.D.ReadSlots.slots c.write-at.new.d) (g.D.ReadSlots.powered c.write-at.new.d))
-    (relinks c.args.first _ _ c.put-u16.ensures ∙ ap (relinked c.args.first) r.2) c.write-at.ensures
+    let r = c.in_ok-read_at.ensures in
+    subst (λ (b : Slot). Stepped (g.D.ReadSlots.slots c.args.d.now) (g.D.ReadSlots.powered c.args.d.now) (writeOf c.args.before b Join) c.write_at.result (g.D.ReadSlots.slots c.write_at.new.d) (g.D.ReadSlots.powered c.write_at.new.d))
+    (relinks c.args.first _ _ c.put_u16.ensures ∙ ap (relinked c.args.first) r.2) c.write_at.ensures

@@ -6,4 +6,4 @@ pub returns : goal.returns
 returns c =
     let k = c.args.k in
     let n : 32 * k + 32 - 32 * k ≡ 32 = omega arith in
-    valued-laid _ _ _ _ c.encode-node.ensures.is (c.copy-from-slice.ensures.after ∙ ap (λ (m : ℕ). take m (drop (32 * k) c.args.row.now)) n)
+    valued-laid _ _ _ _ c.encode_node.ensures.is (c.copy_from_slice.ensures.after ∙ ap (λ (m : ℕ). take m (drop (32 * k) c.args.row.now)) n)

@@ -5,36 +5,36 @@ use Rattle.puncture.proofs.Values.{listed-nodes, listed-fit}
 use Rattle.puncture.proofs.Done.{way_down, is-able, may-join, cut-records, cut-join, punctured}
 use Rattle.puncture.proofs.puncture.Goals as goal
 
-pub returns-in-default : goal.returns-in-default
-returns-in-default g c = record {
-  did = λ k f front x back v. absurd (c.in-default.ensures.0 (way_down v (g.met.D.ReadSlots.sized c.args.d.now) (omega arith)));
+pub returns-in_default : goal.returns-in_default
+returns-in_default g c = record {
+  did = λ k f front x back v. absurd (c.in_default.ensures.0 (way_down v (g.met.D.ReadSlots.sized c.args.d.now) (omega arith)));
   clean = c.drop-guard.ensures;
 }
 
-pub write-records-requires : goal.write-records-requires
-write-records-requires g c = listed-fit treeLevels c.args.n c.args.found.now.node c.in-Some.many c.siblings.new.row c.in-Some.ensures
+pub write_records-requires : goal.write_records-requires
+write_records-requires g c = listed-fit treeLevels c.args.n c.args.found.now.node c.in-Some.many c.siblings.new.row c.in-Some.ensures
 
-pub returns-in-err-first : goal.returns-in-err-first
-returns-in-err-first g c =
-    let p = err_from_is_err_and c.from-residual.result c.from-residual.ensures.1 in
+pub returns-in_err-first : goal.returns-in_err-first
+returns-in_err-first g c =
+    let p = err_from_is_err_and c.from_residual.result c.from_residual.ensures.1 in
     let is = listed-nodes treeLevels c.args.n c.args.found.now.node c.in-Some.many c.siblings.new.row c.in-Some.ensures in
     let sized = g.met.D.ReadSlots.sized c.args.d.now in
     record {
-      did = λ k f front x back v. rw (p.1, p.2) (cut-records v sized _ is (c.in-err-first.ensures (is-able v sized _ is)));
-      clean = c.drop-guard-in-err-first.ensures;
+      did = λ k f front x back v. rw (p.1, p.2) (cut-records v sized _ is (c.in_err-first.ensures (is-able v sized _ is)));
+      clean = c.drop-guard-in_err-first.ensures;
     }
 
-pub returns-in-err-join : goal.returns-in-err-join
-returns-in-err-join g c =
-    let p = err_from_is_err_and c.from-residual-in-err-join.result c.from-residual-in-err-join.ensures.1 in
+pub returns-in_err-join : goal.returns-in_err-join
+returns-in_err-join g c =
+    let p = err_from_is_err_and c.from_residual-in_err-join.result c.from_residual-in_err-join.ensures.1 in
     let is = listed-nodes treeLevels c.args.n c.args.found.now.node c.in-Some.many c.siblings.new.row c.in-Some.ensures in
     let sized = g.met.D.ReadSlots.sized c.args.d.now in
     record {
       did = λ k f front x back v.
-          let l = c.in-ok-first.ensures (is-able v sized _ is) in
+          let l = c.in_ok-first.ensures (is-able v sized _ is) in
           let m = may-join v sized _ is l in
-          rw (p.1, p.2) (cut-join v sized _ is l (c.in-err-join.ensures m.0 m.1));
-      clean = c.drop-guard-in-err-join.ensures;
+          rw (p.1, p.2) (cut-join v sized _ is l (c.in_err-join.ensures m.0 m.1));
+      clean = c.drop-guard-in_err-join.ensures;
     }
 
 pub returns : goal.returns
@@ -43,8 +43,8 @@ returns g c =
     let sized = g.met.D.ReadSlots.sized c.args.d.now in
     record {
       did = λ k f front x back v.
-          let l = c.in-ok-first.ensures (is-able v sized _ is) in
+          let l = c.in_ok-first.ensures (is-able v sized _ is) in
           let m = may-join v sized _ is l in
-          punctured v sized _ is l (c.in-ok-join.ensures m.0 m.1) c.write-at.ensures;
+          punctured v sized _ is l (c.in_ok-join.ensures m.0 m.1) c.write_at.ensures;
       clean = c.drop-guard-2.ensures;
     }

@@ -4,16 +4,16 @@ use Rattle.tree.specs.Nodes.{treeLevels}
 use Rattle.redeeming.proofs.Checks.{survey-err, check-err, check-ok}
 use Rattle.redeeming.proofs.admit.Goals as goal
 
-pub returns-in-err-survey : goal.returns-in-err-survey
-returns-in-err-survey g c = λ k eg ew eo some wide.
-    let p = err_from_is_err_and c.from-residual.result c.from-residual.ensures.1 in
-    rw (p.1, p.2) (survey-err k treeLevels _ _ _ _ _ eg ew some wide _ (Some c.number-in.result) _ _ c.in-err-survey.ensures.is)
+pub returns-in_err-survey : goal.returns-in_err-survey
+returns-in_err-survey g c = λ k eg ew eo some wide.
+    let p = err_from_is_err_and c.from_residual.result c.from_residual.ensures.1 in
+    rw (p.1, p.2) (survey-err k treeLevels _ _ _ _ _ eg ew some wide _ (Some c.number_in.result) _ _ c.in_err-survey.ensures.is)
 
-pub returns-in-err-check-ticket : goal.returns-in-err-check-ticket
-returns-in-err-check-ticket g c = λ k eg ew eo some wide.
-    let p = err_from_is_err_and c.from-residual-in-err-check-ticket.result c.from-residual-in-err-check-ticket.ensures.1 in
-    rw (p.1, p.2) (check-err k treeLevels _ _ _ _ _ eg ew some wide _ _ _ _ c.in-ok-survey.ensures.is c.read-marking.ensures.marks _ (λ f e. c.in-err-check-ticket.ensures k f eo e))
+pub returns-in_err-check_ticket : goal.returns-in_err-check_ticket
+returns-in_err-check_ticket g c = λ k eg ew eo some wide.
+    let p = err_from_is_err_and c.from_residual-in_err-check_ticket.result c.from_residual-in_err-check_ticket.ensures.1 in
+    rw (p.1, p.2) (check-err k treeLevels _ _ _ _ _ eg ew some wide _ _ _ _ c.in_ok-survey.ensures.is c.read_marking.ensures.marks _ (λ f e. c.in_err-check_ticket.ensures k f eo e))
 
 pub returns : goal.returns
 returns g c = λ k eg ew eo some wide.
-    check-ok k treeLevels _ _ _ _ _ eg ew some wide _ _ _ _ c.in-ok-survey.ensures.is c.in-ok-survey.ensures.marks (λ f e. c.in-ok-check-ticket.ensures k f eo e) c.number-in.ensures
+    check-ok k treeLevels _ _ _ _ _ eg ew some wide _ _ _ _ c.in_ok-survey.ensures.is c.in_ok-survey.ensures.marks (λ f e. c.in_ok-check_ticket.ensures k f eo e) c.number_in.ensures

@@ -2,4 +2,4 @@ use Rattle.redeeming.proofs.Checks.{decides-same}
 use Rattle.redeeming.proofs.bears.Goals as goal
 
 pub returns : goal.returns
-returns c = decides-same c.same-bytes.result _ _ c.same-bytes.ensures.0 c.same-bytes.ensures.1
+returns c = decides-same c.same_bytes.result _ _ c.same_bytes.ensures.0 c.same_bytes.ensures.1

@@ -8,38 +8,38 @@ use Rattle.rules.specs.Calls.{kept}
 use Rattle.redeeming.proofs.Spends.{not_entered, entered-apt, not-surveyed, has-heading, is-spent, spots, marks-as}
 use Rattle.redeeming.proofs.redeem_in.Goals as goal
 
-pub returns-in-err-count : goal.returns-in-err-count
-returns-in-err-count g c =
-    let p = err_from_is_err_and c.from-residual.result c.from-residual.ensures.1 in
-    rw (p.1, p.2) (not_entered _ treeLevels _ _ _ _ _ refl c.in-err-count.ensures)
+pub returns-in_err-count : goal.returns-in_err-count
+returns-in_err-count g c =
+    let p = err_from_is_err_and c.from_residual.result c.from_residual.ensures.1 in
+    rw (p.1, p.2) (not_entered _ treeLevels _ _ _ _ _ refl c.in_err-count.ensures)
 
-pub returns-in-err-survey : goal.returns-in-err-survey
-returns-in-err-survey g c =
-    let p = err_from_is_err_and c.from-residual-in-err-survey.result c.from-residual-in-err-survey.ensures.1 in
+pub returns-in_err-survey : goal.returns-in_err-survey
+returns-in_err-survey g c =
+    let p = err_from_is_err_and c.from_residual-in_err-survey.result c.from_residual-in_err-survey.ensures.1 in
     let k = kitOf (g.G.Generator.expansion c.args.g.now) (g.G.Generator.code c.args.g.now) (g.S.Sealer.sealing c.args.s.now) (g.S.Sealer.overhead c.args.s.now) (g.S.Sealer.number c.args.s.now) in
-    let a = entered-apt c.in-ok-count.ensures in
-    rw (p.1, p.2) (not-surveyed k treeLevels _ _ _ _ _ a refl (c.in-err-survey.ensures k (sym c.number.ensures) (sym c.number-2.ensures) (sym c.overhead.ensures) a.some a.wide))
+    let a = entered-apt c.in_ok-count.ensures in
+    rw (p.1, p.2) (not-surveyed k treeLevels _ _ _ _ _ a refl (c.in_err-survey.ensures k (sym c.number.ensures) (sym c.number-2.ensures) (sym c.overhead.ensures) a.some a.wide))
 
-pub returns-in-default : goal.returns-in-default
-returns-in-default g c =
+pub returns-in_default : goal.returns-in_default
+returns-in_default g c =
     let k = kitOf (g.G.Generator.expansion c.args.g.now) (g.G.Generator.code c.args.g.now) (g.S.Sealer.sealing c.args.s.now) (g.S.Sealer.overhead c.args.s.now) (g.S.Sealer.number c.args.s.now) in
-    let a = entered-apt c.in-ok-count.ensures in
-    let v = c.in-ok-survey.ensures k (sym c.number.ensures) (sym c.number-2.ensures) (sym c.overhead.ensures) a.some a.wide in
+    let a = entered-apt c.in_ok-count.ensures in
+    let v = c.in_ok-survey.ensures k (sym c.number.ensures) (sym c.number-2.ensures) (sym c.overhead.ensures) a.some a.wide in
     let h = has-heading k treeLevels _ _ _ _ _ a v in
-    is-spent k treeLevels _ _ _ _ _ a v c.in-default.is (ap Err c.of-number.ensures ∙ ap (λ (n : ℕ). Err (placed Spent n)) (c.number-in.ensures h))
+    is-spent k treeLevels _ _ _ _ _ a v c.in_default.is (ap Err c.of_number.ensures ∙ ap (λ (n : ℕ). Err (placed Spent n)) (c.number_in.ensures h))
 
 pub spend-requires : goal.spend-requires
 spend-requires g c =
     let k = kitOf (g.G.Generator.expansion c.args.g.now) (g.G.Generator.code c.args.g.now) (g.S.Sealer.sealing c.args.s.now) (g.S.Sealer.overhead c.args.s.now) (g.S.Sealer.number c.args.s.now) in
-    let a = entered-apt c.in-ok-count.ensures in
-    let v = c.in-ok-survey.ensures k (sym c.number.ensures) (sym c.number-2.ensures) (sym c.overhead.ensures) a.some a.wide in
+    let a = entered-apt c.in_ok-count.ensures in
+    let v = c.in_ok-survey.ensures k (sym c.number.ensures) (sym c.number-2.ensures) (sym c.overhead.ensures) a.some a.wide in
     has-heading k treeLevels _ _ _ _ _ a v
 
 pub returns : goal.returns
 returns g c =
     let k = kitOf (g.G.Generator.expansion c.args.g.now) (g.G.Generator.code c.args.g.now) (g.S.Sealer.sealing c.args.s.now) (g.S.Sealer.overhead c.args.s.now) (g.S.Sealer.number c.args.s.now) in
-    let a = entered-apt c.in-ok-count.ensures in
-    let v = c.in-ok-survey.ensures k (sym c.number.ensures) (sym c.number-2.ensures) (sym c.overhead.ensures) a.some a.wide in
+    let a = entered-apt c.in_ok-count.ensures in
+    let v = c.in_ok-survey.ensures k (sym c.number.ensures) (sym c.number-2.ensures) (sym c.overhead.ensures) a.some a.wide in
     let l : length c.admit.new.marks ≡ length c.args.marks.now = c.admit.auto.marks in
     let t = spots k treeLevels _ _ _ _ _ a v c.in-Some.found c.in-Some.is l in
     marks-as l (c.spend.ensures t.0 t.1 t.2 t.3 t.4)

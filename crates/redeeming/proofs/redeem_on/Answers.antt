@@ -3,20 +3,20 @@ use Rattle.octets.specs.Buffers.{zeros}
 use Rattle.rules.specs.Calls.{kept}
 use Rattle.redeeming.proofs.Spends.{cleared, kept-err, kept-ok}
 use Rattle.redeeming.proofs.redeem_on.Goals as goal
-use Rattle.redeeming.proofs.redeem_on.Goals.{in-Err, in-default}
+use Rattle.redeeming.proofs.redeem_on.Goals.{in-Err, in_default}
 
 pub returns : goal.returns
 returns g c =
-    let r = c.redeem-in-answer.result in
-    let out = c.redeem-in-answer.new.state in
+    let r = c.redeem_in-answer.result in
+    let out = c.redeem_in-answer.new.state in
     let room = length c.args.state.now in
-    let l : length out ≡ room = c.redeem-in-answer.auto.state in
+    let l : length out ≡ room = c.redeem_in-answer.auto.state in
     let e : c.match-answer.state ≡ kept r room out = elim c.match-answer.branch [
       | in-Err w ↦ kept-err r _ room out c.match-answer.state w.in-Err.is (w.state-is ∙ w.clear.ensures ∙ ap zeros l)
-      | in-default w ↦ kept-ok r room out c.match-answer.state w.in-default.not-Err w.state-is
+      | in_default w ↦ kept-ok r room out c.match-answer.state w.in_default.not-Err w.state-is
     ] in
     record {
-      did = cleared out e c.redeem-in-answer.ensures;
-      marks = c.clear-2.ensures ∙ ap zeros c.redeem-in-answer.auto.marks;
+      did = cleared out e c.redeem_in-answer.ensures;
+      marks = c.clear-2.ensures ∙ ap zeros c.redeem_in-answer.auto.marks;
       clean = c.wipe.ensures;
     }

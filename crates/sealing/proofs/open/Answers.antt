@@ -6,7 +6,7 @@ use Rattle.sealing.specs.Covering.{covered}
 use Rattle.sealing.proofs.Covers.{covered-long}
 use Rattle.sealing.proofs.Opens.{covered-zeros, too_short, too_long, other_tag, same_tag}
 use Rattle.sealing.proofs.open.Goals as goal
-use Rattle.sealing.proofs.open.Goals.{then-sealed-extra-via-then-sealed-extra, then-sealed-extra-via-else-sealed-extra+then-sealed-extra-gt-PLAIN-LIMIT}
+use Rattle.sealing.proofs.open.Goals.{then-sealed-extra-via-then-sealed-extra, then-sealed-extra-via-else-sealed-extra+then-sealed-extra-gt-PLAIN_LIMIT}
 
 pub returns-then-sealed-extra : goal.returns-then-sealed-extra
 returns-then-sealed-extra g c =
@@ -20,13 +20,13 @@ returns-then-sealed-extra g c =
       omega arith,
       elim c.then-sealed-extra.branch [
         | then-sealed-extra-via-then-sealed-extra w ↦ too_short block size tag x tagged sealed w.if-sealed-extra.true
-        | then-sealed-extra-via-else-sealed-extra+then-sealed-extra-gt-PLAIN-LIMIT w ↦ too_long block size tag x tagged sealed w.if-sealed-extra-gt-PLAIN-LIMIT.true
+        | then-sealed-extra-via-else-sealed-extra+then-sealed-extra-gt-PLAIN_LIMIT w ↦ too_long block size tag x tagged sealed w.if-sealed-extra-gt-PLAIN_LIMIT.true
       ],
       c.clear.ensures,
     )
 
-pub returns-then-not-same-bytes : goal.returns-then-not-same-bytes
-returns-then-not-same-bytes g c =
+pub returns-then-not-same_bytes : goal.returns-then-not-same_bytes
+returns-then-not-same_bytes g c =
     let block : ℕ → List ℕ = g.S.Scheme.block c.args.scheme.now c.args.key.now in
     let size : ℕ = g.S.Scheme.size c.args.scheme.now in
     let tag : List ℕ → List ℕ = g.S.Scheme.tag c.args.scheme.now c.args.key.now c.args.heading.now in
@@ -40,7 +40,7 @@ returns-then-not-same-bytes g c =
     let told : take (x - 0) c.tag.new.out ≡ tag (take n sealed) = ap (λ (m : ℕ). take m c.tag.new.out) whole ∙ c.tag.ensures ∙ ap (λ (m : ℕ). tag (take m sealed)) from in
     let rest : take (length sealed - n) (drop n sealed) ≡ drop n sealed = take_rest sealed n in (
       omega arith,
-      other_tag block size tag x tagged sealed (λ e. false≢true (c.if-not-same-bytes.ensures.1 (told ∙ e ∙ sym rest))),
+      other_tag block size tag x tagged sealed (λ e. false≢true (c.if-not-same_bytes.ensures.1 (told ∙ e ∙ sym rest))),
       c.clear.ensures,
     )
 
@@ -58,7 +58,7 @@ returns g c =
     let from : n - 0 ≡ n = omega arith in
     let told : take (x - 0) c.tag.new.out ≡ tag (take n sealed) = ap (λ (m : ℕ). take m c.tag.new.out) whole ∙ c.tag.ensures ∙ ap (λ (m : ℕ). tag (take m sealed)) from in
     let rest : take (length sealed - n) (drop n sealed) ≡ drop n sealed = take_rest sealed n in
-    let same : tag (take n sealed) ≡ drop n sealed = sym told ∙ c.if-not-same-bytes.ensures.0 refl ∙ rest in
+    let same : tag (take n sealed) ≡ drop n sealed = sym told ∙ c.if-not-same_bytes.ensures.0 refl ∙ rest in
     let plain : List ℕ = covered block size (take n sealed) in
     let out : c.cover.new.out ≡ filled plain (length c.args.out.now) =
     c.cover.ensures
@@ -68,7 +68,7 @@ returns g c =
       (
         plain,
         (
-          same_tag block size tag x tagged sealed c.if-sealed-extra.false c.if-sealed-extra-gt-PLAIN-LIMIT.false same,
+          same_tag block size tag x tagged sealed c.if-sealed-extra.false c.if-sealed-extra-gt-PLAIN_LIMIT.false same,
           sym (covered-long block size (take n sealed) ∙ length-take-le n sealed (omega arith)),
           out,
         ),

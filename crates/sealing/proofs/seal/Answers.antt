@@ -24,10 +24,10 @@ returns g c =
     let front : take (n - 0) c.cover.new.out ≡ bytes =
     ap (take (n - 0)) laid ∙ take_at bytes (zeros (room - length bytes)) (n - 0) (omega (arith, covered-long block size plain)) in
     let whole : x - 0 ≡ g.S.Scheme.extra c.args.scheme.now = omega arith in
-    let end : c.copy-from-slice.new.self ≡ tag bytes =
-    c.copy-from-slice.ensures.after ∙ ap (λ (m : ℕ). take m c.tag.new.out) whole ∙ c.tag.ensures ∙ ap tag front in
+    let end : c.copy_from_slice.new.self ≡ tag bytes =
+    c.copy_from_slice.ensures.after ∙ ap (λ (m : ℕ). take m c.tag.new.out) whole ∙ c.tag.ensures ∙ ap tag front in
     let long : length (tag bytes) ≡ x = g.met.S.Scheme.tagged c.args.scheme.now c.args.key.now c.args.heading.now bytes ∙ sym is in
-    let written = put_mid-paste n (n + x - n) c.cover.new.out c.copy-from-slice.new.self (tag bytes) x end (omega arith) (sym long) in (
+    let written = put_mid-paste n (n + x - n) c.cover.new.out c.copy_from_slice.new.self (tag bytes) x end (omega arith) (sym long) in (
       (omega arith, omega arith),
       omega arith,
       (written ∙ ap (λ (o : List ℕ). paste o n (tag bytes) x) laid ∙ sealed-parts block size tag x plain (tag bytes) room long refl (omega arith)),

@@ -25,15 +25,15 @@ returns c =
     let k : s + sectorSize - s ≡ sectorSize = omega arith in
     let j : at + kept - at ≡ kept = omega arith in
     let z : kept - 0 ≡ kept = omega arith in
-    let x = c.copy-from-slice.new.self in
-    let y = c.copy-from-slice-2.new.self in
-    let first : x ≡ old = c.copy-from-slice.ensures.after ∙ ap (λ n. take n (drop s row)) k in
-    let part : y ≡ take kept b = c.copy-from-slice-2.ensures.after ∙ ap (λ n. take n b) z in
-    let mid : c.copy-from-slice-3.new.self ≡ new = c.copy-from-slice-3.ensures.after ∙ put-part at (at + kept - at) kept x y b part j ∙ ap (λ t. paste t at b kept) first in
+    let x = c.copy_from_slice.new.self in
+    let y = c.copy_from_slice-2.new.self in
+    let first : x ≡ old = c.copy_from_slice.ensures.after ∙ ap (λ n. take n (drop s row)) k in
+    let part : y ≡ take kept b = c.copy_from_slice-2.ensures.after ∙ ap (λ n. take n b) z in
+    let mid : c.copy_from_slice-3.new.self ≡ new = c.copy_from_slice-3.ensures.after ∙ put-part at (at + kept - at) kept x y b part j ∙ ap (λ t. paste t at b kept) first in
     let len-old : length old ≡ sectorSize = simp (length-take, length-drop) (omega arith) in
     let len : length new ≡ sectorSize = length-paste old at b kept (omega arith) (omega arith) ∙ len-old in
     let place : s + at ≡ i * slotSize = omega arith in
     record {
-      put = put_all s (s + sectorSize - s) row c.copy-from-slice-3.new.self new sectorSize mid k len ∙ within sectorSize s at kept row b held ends (omega arith) ∙ ap (λ n. paste row n b kept) place;
+      put = put_all s (s + sectorSize - s) row c.copy_from_slice-3.new.self new sectorSize mid k len ∙ within sectorSize s at kept row b held ends (omega arith) ∙ ap (λ n. paste row n b kept) place;
       wiped = refl;
     }

@@ -5,17 +5,17 @@ use Rattle.session.specs.Limits.{name_at, nameLimit}
 use Rattle.session.specs.Records.{laidOut, lifetimeFits}
 use Rattle.session.proofs.Laid.{ill-lived, ill-named}
 use Rattle.session.proofs.is_laid_out.Goals as goal
-use Rattle.session.proofs.is_laid_out.Goals.{then-name-length-gt-NAME-LIMIT-via-then-name-length-gt-NAME-LIMIT, then-name-length-gt-NAME-LIMIT-via-else-name-length-gt-NAME-LIMIT+then-not-lifetime-fits}
+use Rattle.session.proofs.is_laid_out.Goals.{then-name_length-gt-NAME_LIMIT-via-then-name_length-gt-NAME_LIMIT, then-name_length-gt-NAME_LIMIT-via-else-name_length-gt-NAME_LIMIT+then-not-lifetime_fits}
 
-pub returns-then-name-length-gt-NAME-LIMIT : goal.returns-then-name-length-gt-NAME-LIMIT
-returns-then-name-length-gt-NAME-LIMIT c =
-    let n : c.secret-length-name-at.result ≡ 32 = c.secret-length-name-at.ensures in
+pub returns-then-name_length-gt-NAME_LIMIT : goal.returns-then-name_length-gt-NAME_LIMIT
+returns-then-name_length-gt-NAME_LIMIT c =
+    let n : c.secret_length-name_at.result ≡ 32 = c.secret_length-name_at.ensures in
     let b : List ℕ = c.args.bytes.now in
-    sym (elim c.then-name-length-gt-NAME-LIMIT.branch [
-      | then-name-length-gt-NAME-LIMIT-via-then-name-length-gt-NAME-LIMIT w ↦
-          ill-named b c.args.suite (simp n at w.if-name-length-gt-NAME-LIMIT.true)
-      | then-name-length-gt-NAME-LIMIT-via-else-name-length-gt-NAME-LIMIT+then-not-lifetime-fits w ↦
-          ill-lived b c.args.suite (ap lifetimeFits (sym w.get-u32.ensures) ∙ sym w.if-not-lifetime-fits.ensures)
+    sym (elim c.then-name_length-gt-NAME_LIMIT.branch [
+      | then-name_length-gt-NAME_LIMIT-via-then-name_length-gt-NAME_LIMIT w ↦
+          ill-named b c.args.suite (simp n at w.if-name_length-gt-NAME_LIMIT.true)
+      | then-name_length-gt-NAME_LIMIT-via-else-name_length-gt-NAME_LIMIT+then-not-lifetime_fits w ↦
+          ill-lived b c.args.suite (ap lifetimeFits (sym w.get_u32.ensures) ∙ sym w.if-not-lifetime_fits.ensures)
     ])
 
 pub returns : goal.returns

@@ -8,4 +8,4 @@ pub returns : goal.returns
 unfolding isRecord
 returns c =
     let is : c.is_some.result ≡ isRecord c.args.bytes.now = c.is_some.ensures ∙ ap is_some c.record_suite.ensures in
-    record { value = is; decides = Decides-at _ _ is (tells c.args.bytes.now (λ k. omega (arith, c.type-inv.bytes k))) }
+    record { value = is; decides = Decides-at _ _ is (tells c.args.bytes.now (λ k. omega (arith, c.type_inv.bytes k))) }

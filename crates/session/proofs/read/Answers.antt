@@ -6,15 +6,15 @@ use Rattle.session.specs.Records.{recordSuite, decodeOf}
 use Rattle.session.proofs.Trip.{read-forth, read_again}
 use Rattle.session.proofs.read.Goals as goal
 
-pub state-of-requires : goal.state-of-requires
-state-of-requires c = sym c.in-Some.ensures
+pub state_of-requires : goal.state_of-requires
+state_of-requires c = sym c.in-Some.ensures
 
 pub returns-in-Some : goal.returns-in-Some
 unfolding decodeOf
 returns-in-Some c =
     let some : recordSuite c.args.bytes.now ≡ Some c.in-Some.suite = sym c.in-Some.ensures in
     let is : ◌≡◌ {A = Result SessionState Refusal} (Ok c.state_of.result) (decodeOf c.args.bytes.now) = rw (some, c.state_of.ensures) in
-    record { value = is; forth = read-forth c.args.bytes.now _ (λ k. omega (arith, c.ok.bytes k)) is; back = read_again c.args.bytes.now _ is }
+    record { value = is; forth = read-forth c.args.bytes.now _ (λ k. omega (arith, c.type_inv.bytes k)) is; back = read_again c.args.bytes.now _ is }
 
 pub returns-in-None : goal.returns-in-None
 unfolding decodeOf

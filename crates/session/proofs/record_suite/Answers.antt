@@ -6,34 +6,34 @@ use Rattle.session.specs.Suites.{suiteOf}
 use Rattle.session.specs.Records.{recordSuite, laidOut}
 use Rattle.session.proofs.record_suite.Goals as goal
 
-pub returns-then-bytes-lt-RECORD-LEAST : goal.returns-then-bytes-lt-RECORD-LEAST
+pub returns-then-bytes-lt-RECORD_LEAST : goal.returns-then-bytes-lt-RECORD_LEAST
 unfolding recordSuite
-returns-then-bytes-lt-RECORD-LEAST c =
-    let short : ltb (length c.args.bytes.now) leastLength ≡ true = lt-ltb _ _ c.if-bytes-lt-RECORD-LEAST.true in
+returns-then-bytes-lt-RECORD_LEAST c =
+    let short : ltb (length c.args.bytes.now) leastLength ≡ true = lt-ltb _ _ c.if-bytes-lt-RECORD_LEAST.true in
     rw short
 
-pub returns-in-err-suite : goal.returns-in-err-suite
+pub returns-in_err-suite : goal.returns-in_err-suite
 unfolding recordSuite
-returns-in-err-suite c =
-    let long : ltb (length c.args.bytes.now) leastLength ≡ false = le-ltb _ _ c.if-bytes-lt-RECORD-LEAST.false in
+returns-in_err-suite c =
+    let long : ltb (length c.args.bytes.now) leastLength ≡ false = le-ltb _ _ c.if-bytes-lt-RECORD_LEAST.false in
     let none : suiteOf (number_of (take 2 (drop 0 c.args.bytes.now))) ≡ None =
-    ap suiteOf (sym c.get-u16.ensures) ∙ sym c.from-number.ensures ∙ c.in-err-suite.was in
-    c.from-residual.ensures ∙ rw (long, none)
+    ap suiteOf (sym c.get_u16.ensures) ∙ sym c.from_number.ensures ∙ c.in_err-suite.was in
+    c.from_residual.ensures ∙ rw (long, none)
 
-pub returns-then-is-laid-out : goal.returns-then-is-laid-out
+pub returns-then-is_laid_out : goal.returns-then-is_laid_out
 unfolding recordSuite
-returns-then-is-laid-out c =
-    let long : ltb (length c.args.bytes.now) leastLength ≡ false = le-ltb _ _ c.if-bytes-lt-RECORD-LEAST.false in
-    let some : suiteOf (number_of (take 2 (drop 0 c.args.bytes.now))) ≡ Some c.in-ok-suite.suite =
-    ap suiteOf (sym c.get-u16.ensures) ∙ sym c.from-number.ensures ∙ c.in-ok-suite.was in
-    let laid : laidOut c.in-ok-suite.suite c.args.bytes.now ≡ true = sym c.if-is-laid-out.ensures in
+returns-then-is_laid_out c =
+    let long : ltb (length c.args.bytes.now) leastLength ≡ false = le-ltb _ _ c.if-bytes-lt-RECORD_LEAST.false in
+    let some : suiteOf (number_of (take 2 (drop 0 c.args.bytes.now))) ≡ Some c.in_ok-suite.suite =
+    ap suiteOf (sym c.get_u16.ensures) ∙ sym c.from_number.ensures ∙ c.in_ok-suite.was in
+    let laid : laidOut c.in_ok-suite.suite c.args.bytes.now ≡ true = sym c.if-is_laid_out.ensures in
     rw (long, some, laid)
 
-pub returns-else-is-laid-out : goal.returns-else-is-laid-out
+pub returns-else-is_laid_out : goal.returns-else-is_laid_out
 unfolding recordSuite
-returns-else-is-laid-out c =
-    let long : ltb (length c.args.bytes.now) leastLength ≡ false = le-ltb _ _ c.if-bytes-lt-RECORD-LEAST.false in
-    let some : suiteOf (number_of (take 2 (drop 0 c.args.bytes.now))) ≡ Some c.in-ok-suite.suite =
-    ap suiteOf (sym c.get-u16.ensures) ∙ sym c.from-number.ensures ∙ c.in-ok-suite.was in
-    let laid : laidOut c.in-ok-suite.suite c.args.bytes.now ≡ false = sym c.if-is-laid-out.ensures in
+returns-else-is_laid_out c =
+    let long : ltb (length c.args.bytes.now) leastLength ≡ false = le-ltb _ _ c.if-bytes-lt-RECORD_LEAST.false in
+    let some : suiteOf (number_of (take 2 (drop 0 c.args.bytes.now))) ≡ Some c.in_ok-suite.suite =
+    ap suiteOf (sym c.get_u16.ensures) ∙ sym c.from_number.ensures ∙ c.in_ok-suite.was in
+    let laid : laidOut c.in_ok-suite.suite c.args.bytes.now ≡ false = sym c.if-is_laid_out.ensures in
     rw (long, some, laid)

@@ -6,24 +6,24 @@ use Rattle.session.proofs.Laid.{suite-laid}
 use Rattle.session.proofs.Trip.{read_made}
 use Rattle.session.proofs.state_of.Goals as goal
 
-pub slice-bounds-copy-from-slice-end-2 : goal.slice-bounds-copy-from-slice-end-2
-slice-bounds-copy-from-slice-end-2 c = let long = (suite-laid c.args.bytes.now c.args.suite c.requires).long in search rules
+pub slice_bounds-copy_from_slice-end-2 : goal.slice_bounds-copy_from_slice-end-2
+slice_bounds-copy_from_slice-end-2 c = let long = (suite-laid c.args.bytes.now c.args.suite c.requires).long in search rules
 
-pub slice-bounds-put-part-count : goal.slice-bounds-put-part-count
-slice-bounds-put-part-count c = let long = (suite-laid c.args.bytes.now c.args.suite c.requires).long in omega arith
+pub slice_bounds-put_part-count : goal.slice_bounds-put_part-count
+slice_bounds-put_part-count c = let long = (suite-laid c.args.bytes.now c.args.suite c.requires).long in omega arith
 
-pub slice-bounds-put-part-start : goal.slice-bounds-put-part-start
-slice-bounds-put-part-start c = let long = (suite-laid c.args.bytes.now c.args.suite c.requires).long in search rules
+pub slice_bounds-put_part-start : goal.slice_bounds-put_part-start
+slice_bounds-put_part-start c = let long = (suite-laid c.args.bytes.now c.args.suite c.requires).long in search rules
 
-pub put-part-requires : goal.put-part-requires
-put-part-requires c =
+pub put_part-requires : goal.put_part-requires
+put_part-requires c =
     let l = suite-laid c.args.bytes.now c.args.suite c.requires in
     let whole = l.whole in
     let named = l.named in
     simp (length-take, length-drop) (omega arith)
 
-pub bounds-bytes-name-at : goal.bounds-bytes-name-at
-bounds-bytes-name-at c = let long = (suite-laid c.args.bytes.now c.args.suite c.requires).long in omega arith
+pub bounds-bytes-name_at : goal.bounds-bytes-name_at
+bounds-bytes-name_at c = let long = (suite-laid c.args.bytes.now c.args.suite c.requires).long in omega arith
 
 pub returns : goal.returns
 returns c =
@@ -35,5 +35,5 @@ returns c =
     let name : c.put_part.new.row ≡ filled rest 32 =
     c.put_part.ensures ∙ simp (n, take_rest) (filled_next [] rest 32 0 (length rest) refl refl (omega arith)) in
     read_made c.args.suite c.args.bytes.now _ _ _ _ _ _ _
-    c.get_u64.ensures c.get_u32.ensures c.get_u32-2.ensures c.get-u32-3.ensures secret name
+    c.get_u64.ensures c.get_u32.ensures c.get_u32-2.ensures c.get_u32-3.ensures secret name
     (ap (λ (x : ℕ). get_or c.args.bytes.now (22 + x) 0) n)

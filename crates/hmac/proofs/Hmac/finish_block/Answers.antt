@@ -9,6 +9,6 @@ pub returns : goal.returns
 unfolding hmac
 returns c k m h =
     let d : List ℕ = sha256 (innerBlock k ++ m) in
-    let digest : take 32 c.finish-block.new.out ≡ d =
-    ap (take 32) (c.finish-block.ensures _ h.message) ∙ take_at d (replicate 32 0) 32 (digest-long (innerBlock k ++ m)) in
-    c.finish-block-2.ensures _ (c.update.ensures _ h.key) ∙ ap (λ (l : List ℕ). sha256 (outerBlock k ++ l) ++ replicate 32 0) digest
+    let digest : take 32 c.finish_block.new.out ≡ d =
+    ap (take 32) (c.finish_block.ensures _ h.message) ∙ take_at d (replicate 32 0) 32 (digest-long (innerBlock k ++ m)) in
+    c.finish_block-2.ensures _ (c.update.ensures _ h.key) ∙ ap (λ (l : List ℕ). sha256 (outerBlock k ++ l) ++ replicate 32 0) digest

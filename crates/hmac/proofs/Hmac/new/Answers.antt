@@ -9,7 +9,7 @@ pub returns : goal.returns
 unfolding innerBlock outerBlock
 returns c =
     let k : List ℕ = c.args.key.now in
-    let inner : c.mask.new.pad ≡ masked 0x36 (keyBlock k) = c.mask.ensures ∙ ap (masked 0x36) c.key-block.ensures in
+    let inner : c.mask.new.pad ≡ masked 0x36 (keyBlock k) = c.mask.ensures ∙ ap (masked 0x36) c.key_block.ensures in
     let outer : c.mask-2.new.pad ≡ masked 0x5c (keyBlock k) =
     c.mask-2.ensures ∙ ap (masked 0x6a) inner ∙ masked-twice 0x36 0x6a (keyBlock k) in
     record {

@@ -31,7 +31,7 @@ returns-in-None c =
     let fits : length b ≡ slotSize = search rules in
     let e = c.in-None.ensures in
     let on = c.if-not-self.false in
-    let put = put_all (c.args.index * slotSize) _ row _ b slotSize c.copy-from-slice.ensures.after (omega arith) fits in
+    let put = put_all (c.args.index * slotSize) _ row _ b slotSize c.copy_from_slice.ensures.after (omega arith) fits in
     record {
       meaning = tears (λ l. l / slotSize) room partly partly-low row _ c.args.self.now.cut c.args.index b (Ok tt) _ _ _ fits (h, on, sym e.answer, put, on, e.rest);
       exact = (h, on, sym e.answer, put, on, e.rest);
@@ -50,9 +50,9 @@ returns-in-Some c =
     let at = c.args.index * slotSize in
     let kept = c.min-kept.result in
     let few : kept ≡ partly m = omega (arith, c.min-kept.ensures) in
-    let part : c.copy-from-slice-in-Some.new.self ≡ take (partly m) b = c.copy-from-slice-in-Some.ensures.after ∙ ap (λ k. take k b) (omega (arith, few)) in
+    let part : c.copy_from_slice-in-Some.new.self ≡ take (partly m) b = c.copy_from_slice-in-Some.ensures.after ∙ ap (λ k. take k b) (omega (arith, few)) in
     let long : at + kept - at ≡ partly m = omega (arith, few) in
-    let put = put-part at (at + kept - at) (partly m) row c.copy-from-slice-in-Some.new.self b part long in
+    let put = put-part at (at + kept - at) (partly m) row c.copy_from_slice-in-Some.new.self b part long in
     record {
       meaning = tears (λ l. l / slotSize) room partly partly-low row _ c.args.self.now.cut c.args.index b (Err NoPower) _ _ _ fits (inr (refl, h, on, (m, sym e.answer, put), refl, e.rest));
       exact = inr (refl, h, on, (m, sym e.answer, put), refl, e.rest);

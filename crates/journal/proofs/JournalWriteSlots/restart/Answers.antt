@@ -1,12 +1,12 @@
 use Rattle.std.proofs.Common.{◌≡◌, ◌<◌, length, sym, ap, ◌∙◌, arith}
 use Rattle.journal.specs.Layout.{shown}
-use Rattle.journal.specs.Wholes.{restored-none, restart-cleared}
+use Rattle.journal.proofs.Wholes.{restored-none, restart-cleared}
 use Rattle.journal.proofs.JournalWriteSlots.restart.Goals as goal
 
-pub returns-then-shown-count-eq0 : goal.returns-then-shown-count-eq0
-returns-then-shown-count-eq0 g c =
+pub returns-then-shown_count-eq0 : goal.returns-then-shown_count-eq0
+returns-then-shown_count-eq0 g c =
     let s = g.D.ReadSlots.slots c.args.self.now.below in
-    let a = c.in-ok-restart.ensures in
+    let a = c.in_ok-restart.ensures in
     let same = ap (λ y. length (shown y)) a.0 in
     let none : length (shown s) ≡ 0 = omega arith in
     record { meaning = (ap shown a.0, a.1); below = a.0 ∙ sym (restored-none s none); wiped = λ e. e }

@@ -1,6 +1,6 @@
 use Rattle.std.proofs.Common.{◌<◌, length, arith}
 use Rattle.journal.specs.Layout.{shown}
-use Rattle.journal.specs.Wholes.{write-cleared}
+use Rattle.journal.proofs.Wholes.{write-cleared}
 use Rattle.journal.proofs.JournalWriteSlots.write.Goals as goal
 
 pub returns : goal.returns

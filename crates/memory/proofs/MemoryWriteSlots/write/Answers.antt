@@ -43,7 +43,7 @@ returns-in-None c =
     let fits : length b ≡ slotSize = search rules in
     let e = c.in-None.ensures in
     let on = c.if-not-self.false in
-    let put = put_all (c.args.index * slotSize) _ row _ b slotSize c.copy-from-slice.ensures.after (omega arith) fits in
+    let put = put_all (c.args.index * slotSize) _ row _ b slotSize c.copy_from_slice.ensures.after (omega arith) fits in
     record {
       meaning = wholes (λ l. l / slotSize) room wholly either row _ c.args.self.now.cut c.args.index b (Ok tt) _ _ _ fits (h, on, sym e.answer, put, on, e.rest);
       exact = (h, on, sym e.answer, put, on, e.rest);
@@ -59,7 +59,7 @@ returns-then-standing-gt0 c =
     let fits : length b ≡ slotSize = search rules in
     let e = c.in-Some.ensures in
     let on = c.if-not-self.false in
-    let put = put_all (c.args.index * slotSize) _ row _ b slotSize c.copy-from-slice-then-standing-gt0.ensures.after (omega arith) fits in
+    let put = put_all (c.args.index * slotSize) _ row _ b slotSize c.copy_from_slice-then-standing-gt0.ensures.after (omega arith) fits in
     let is = put ∙ ap (paste row (c.args.index * slotSize) b) (sym (all-stand m c.if-standing-gt0.true)) in
     record {
       meaning = wholes (λ l. l / slotSize) room wholly either row _ c.args.self.now.cut c.args.index b (Err NoPower) _ _ _ fits (inr (refl, h, on, (m, sym e.answer, is), refl, e.rest));

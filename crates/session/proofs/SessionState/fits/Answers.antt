@@ -6,16 +6,16 @@ use Rattle.session.specs.Limits.{nameLimit}
 use Rattle.session.specs.Records.{fieldsFit, lifetimeFits, blank}
 use Rattle.session.proofs.Fitting.{fields_fit}
 use Rattle.session.proofs.SessionState.fits.Goals as goal
-use Rattle.session.proofs.SessionState.fits.Goals.{then-n-gt-NAME-LIMIT-via-then-n-gt-NAME-LIMIT, then-n-gt-NAME-LIMIT-via-else-n-gt-NAME-LIMIT+then-not-lifetime-fits}
+use Rattle.session.proofs.SessionState.fits.Goals.{then-n-gt-NAME_LIMIT-via-then-n-gt-NAME_LIMIT, then-n-gt-NAME_LIMIT-via-else-n-gt-NAME_LIMIT+then-not-lifetime_fits}
 
-pub returns-then-n-gt-NAME-LIMIT : goal.returns-then-n-gt-NAME-LIMIT
+pub returns-then-n-gt-NAME_LIMIT : goal.returns-then-n-gt-NAME_LIMIT
 unfolding fieldsFit
-returns-then-n-gt-NAME-LIMIT c =
-    let is : false ≡ fieldsFit c.args.self.now = sym (elim c.then-n-gt-NAME-LIMIT.branch [
-      | then-n-gt-NAME-LIMIT-via-then-n-gt-NAME-LIMIT w ↦
-          let long : leb c.args.self.now.name_length nameLimit ≡ false = lt-leb _ _ w.if-n-gt-NAME-LIMIT.true in
+returns-then-n-gt-NAME_LIMIT c =
+    let is : false ≡ fieldsFit c.args.self.now = sym (elim c.then-n-gt-NAME_LIMIT.branch [
+      | then-n-gt-NAME_LIMIT-via-then-n-gt-NAME_LIMIT w ↦
+          let long : leb c.args.self.now.name_length nameLimit ≡ false = lt-leb _ _ w.if-n-gt-NAME_LIMIT.true in
           and_right _ _ (and_left _ _ long)
-      | then-n-gt-NAME-LIMIT-via-else-n-gt-NAME-LIMIT+then-not-lifetime-fits w ↦ and_left _ _ (sym w.if-not-lifetime-fits.ensures)
+      | then-n-gt-NAME_LIMIT-via-else-n-gt-NAME_LIMIT+then-not-lifetime_fits w ↦ and_left _ _ (sym w.if-not-lifetime_fits.ensures)
     ]) in
     record { value = is; decides = Decides-at _ _ is (fields_fit c.args.self.now (omega arith)) }
 

@@ -9,8 +9,8 @@ use Rattle.session.specs.Records.{Typed, Fits, encodeOf, fieldsFit}
 use Rattle.session.proofs.Written.{filled-parts, answer, buffer, reads-back, too_short, no_record}
 use Rattle.session.proofs.SessionState.write.Goals as goal
 
-pub returns-then-out-lt-RECORD-LIMIT : goal.returns-then-out-lt-RECORD-LIMIT
-returns-then-out-lt-RECORD-LIMIT c =
+pub returns-then-out-lt-RECORD_LIMIT : goal.returns-then-out-lt-RECORD_LIMIT
+returns-then-out-lt-RECORD_LIMIT c =
     let n : ℕ = length c.args.out.now in
     let l : length c.clear.new.b ≡ n = ap length c.clear.ensures ∙ length-replicate {A = ℕ} n 0 in
     let p = too_short c.args.self.now n c.clear.new.b (lt-ltb n mostLength (omega arith)) c.clear.ensures in
@@ -35,10 +35,10 @@ returns c =
     let at : c.secret_length-name_at.result ≡ 32 = c.secret_length-name_at.ensures in
     let from : s.name_length - 0 ≡ s.name_length = omega arith in
     let all : c.put_part-2.new.row ≡ filled (encodeOf s) n =
-    filled-parts s n t f room c.clear.new.b c.put_u16.new.b c.put_u64.new.b c.put_u32.new.b c.put_u32-2.new.b c.put-u32-3.new.b c.put-part.new.row c.put_part-2.new.row
+    filled-parts s n t f room c.clear.new.b c.put_u16.new.b c.put_u64.new.b c.put_u32.new.b c.put_u32-2.new.b c.put_u32-3.new.b c.put_part.new.row c.put_part-2.new.row
     c.clear.ensures
     (c.put_u16.ensures ∙ ap (λ (x : ℕ). paste c.clear.new.b 0 (bytes_of 2 x) 2) c.number.ensures)
-    c.put_u64.ensures c.put_u32.ensures c.put_u32-2.ensures c.put-u32-3.ensures c.put-part.ensures
+    c.put_u64.ensures c.put_u32.ensures c.put_u32-2.ensures c.put_u32-3.ensures c.put_part.ensures
     (c.put_part-2.ensures ∙ simp (at, from)) in
     let k : 22 + c.secret_length-name_at.result + 1 + s.name_length ≡ name_at s.suite + 1 + s.name_length = ap (λ (x : ℕ). 22 + x + 1 + s.name_length) c.secret_length-name_at.ensures in
     record {

@@ -7,8 +7,8 @@ use Rattle.device.specs.declared.DeviceFault.{DeviceFault}
 use Rattle.device.specs.Effects.{Slot, Slots, Answer, Tearing, blank}
 use Rattle.journal.specs.Layout.{mostSlots, markIn, copyIn, placesIn, unusedIn, pendingIn, shown, delivered, clearedOf, cleared}
 use Rattle.journal.specs.Steps.{Clearing}
-use Rattle.journal.specs.Marks.{torn-clear}
-use Rattle.journal.specs.Views.{length-places, view-none, view-some, mark-shown, slot-places, slot_kept, failed, used, failed-unused}
+use Rattle.journal.proofs.Marks.{torn-clear}
+use Rattle.journal.proofs.Views.{length-places, view-none, view-some, mark-shown, slot-places, slot_kept, failed, used, failed-unused}
 
 on-off : (p : Bool) → p ≡ true → p ≢ false
 on-off p a b = both_ways p b a

@@ -6,26 +6,8 @@ use Rattle.device.specs.declared.DeviceFault.TheVariants.{NoSuchSlot, NoPower}
 use Rattle.device.specs.Effects.{Slot, Slots, Answer, Reading, Writing, Restarting, blank}
 use Rattle.journal.specs.Layout.{mostSlots, markIn, copyIn, placesIn, unusedIn, pendingIn, view, shown, cleared, restored}
 use Rattle.journal.specs.Steps.{Clearing, Placing, WritingBelow, RestartingBelow}
-use Rattle.journal.specs.Views.{length-places, length-shown, view-none, view-some, view-other, place_at, copy_places, mark-shown, slot-places}
-use Rattle.journal.specs.Clearings.{Settled, settled}
-
--- every slot that is shown has as many bytes as those below
-
-view-sized : (w : ℕ) (o : Option ℕ) (b : Slots) (c : Slot) → ((k : ℕ) → k < length b → length (slice_index_or b k []) ≡ w) → length c ≡ w → (k : ℕ) → k < length b → length (slice_index_or (view o b c) k []) ≡ w
-unfolding view
-view-sized w None b c all one k h = all k h
-view-sized w (Some i) b c all one k h =
-    ⊎_elim
-    (λ (e : k ≡ i). ap (λ j. length (slice_index_or (slice_set b i c) j [])) e ∙ ap length (get_or-set_same b i c [] (omega arith)) ∙ one)
-    (λ (n : k ≡ i → ⊥). ap length (get_or-set_other b i k c [] n) ∙ all k h)
-    (cases_eq k i)
-
-pub shown-sized : (w : ℕ) (s : Slots) → ((k : ℕ) → k < length s → length (slice_index_or s k []) ≡ w) → (k : ℕ) → k < length (shown s) → length (slice_index_or (shown s) k []) ≡ w
-shown-sized w s all k h =
-    let l = length-shown s in
-    let p = length-places s in
-    let each : (j : ℕ) → j < length (placesIn s) → length (slice_index_or (placesIn s) j []) ≡ w = λ j i. ap length (place_at s j (omega arith)) ∙ all (j + 2) (omega arith) in
-    view-sized w (pendingIn (markIn s)) (placesIn s) (copyIn s) each (all 1 (omega arith)) k (omega arith)
+use Rattle.journal.proofs.Views.{length-places, length-shown, view-none, view-some, view-other, place_at, copy_places, mark-shown, slot-places}
+use Rattle.journal.proofs.Clearings.{Settled, settled}
 
 -- reading
 
