@@ -69,7 +69,7 @@ fn bad_link(slot: u16) -> Halt
 
 // Reads a slot; the reason why it cannot be read carries the slot.
 fn fetch<D: ReadSlots>(device: &D, index: u16, slot: &mut [u8; 64]) -> Result<(), Halt>
-    ensures { Fetching (slots device.now) (powered device.now) index result slot.new }
+    ensures { Fetching (D.slots device.now) (D.powered device.now) index result slot.new }
 {
     match device.read(index as usize, slot) {
         Ok(()) => Ok(()),
@@ -93,7 +93,7 @@ fn read_head<D: ReadSlots>(
     sealer: u8,
     slot: &mut [u8; 64],
 ) -> Result<Head, Halt>
-    ensures { result ≡ headRead treeLevels generator sealer (slots device.now) (powered device.now) }
+    ensures { result ≡ headRead treeLevels generator sealer (D.slots device.now) (D.powered device.now) }
 {
     fetch(device, 0, slot)?;
     let bad = Halt {
@@ -116,7 +116,7 @@ fn read_record<D: ReadSlots>(
     index: u16,
     slot: &mut [u8; 64],
 ) -> Result<NodeFields, Halt>
-    ensures { result ≡ recordRead treeLevels (slots device.now) (powered device.now) index }
+    ensures { result ≡ recordRead treeLevels (D.slots device.now) (D.powered device.now) index }
 {
     fetch(device, index, slot)?;
     match decode_node(LEVELS, slot) {
@@ -178,9 +178,9 @@ fn walk_along<D: ReadSlots>(
     marks: &mut [u8],
     slot: &mut [u8; 64],
 ) -> Result<Tally, Halt>
-    requires { powered device.now ≡ true }
-    ensures is { result ≡ tally_of treeLevels wanted (noneYet head.now.issued) 0 (walk treeLevels (suc (2 ^ treeLevels)) (slots device.now) 0 None 0 head.now.first) }
-    ensures marks { (xs : List Link) → walk treeLevels (suc (2 ^ treeLevels)) (slots device.now) 0 None 0 head.now.first ≡ walked xs → marks.new ≡ markedAll marks.old xs }
+    requires { D.powered device.now ≡ true }
+    ensures is { result ≡ tally_of treeLevels wanted (noneYet head.now.issued) 0 (walk treeLevels (suc (2 ^ treeLevels)) (D.slots device.now) 0 None 0 head.now.first) }
+    ensures marks { (xs : List Link) → walk treeLevels (suc (2 ^ treeLevels)) (D.slots device.now) 0 None 0 head.now.first ≡ walked xs → marks.new ≡ markedAll marks.old xs }
 {
     let count = device.count();
     let mut tally = Tally {
@@ -231,9 +231,9 @@ fn judge<D: ReadSlots>(
     marks: &mut [u8],
     slot: &mut [u8; 64],
 ) -> Result<Survey, Halt>
-    requires { powered device.now ≡ true }
-    ensures is { result ≡ answer_of treeLevels (Some wanted) (chainOf treeLevels head.now (slots device.now)) }
-    ensures marks { (h : Head) (xs : List Link) → chainOf treeLevels head.now (slots device.now) ≡ read h xs → marks.new ≡ markedAll marks.old xs }
+    requires { D.powered device.now ≡ true }
+    ensures is { result ≡ answer_of treeLevels (Some wanted) (chainOf treeLevels head.now (D.slots device.now)) }
+    ensures marks { (h : Head) (xs : List Link) → chainOf treeLevels head.now (D.slots device.now) ≡ read h xs → marks.new ≡ markedAll marks.old xs }
 {
     let tally = walk_along(device, head, wanted, marks, slot)?;
     if tally.lowest < LEAVES {
@@ -261,8 +261,8 @@ pub fn read_marking<D: ReadSlots>(
     marks: &mut [u8],
     slot: &mut [u8; 64],
 ) -> Result<Survey, Halt>
-    ensures is { result ≡ answer_of treeLevels asked (reading_of treeLevels generator sealer (length marks.old) (slots device.now) (powered device.now)) }
-    ensures marks { marks.new ≡ marksOf (length marks.old) (reading_of treeLevels generator sealer (length marks.old) (slots device.now) (powered device.now)) }
+    ensures is { result ≡ answer_of treeLevels asked (reading_of treeLevels generator sealer (length marks.old) (D.slots device.now) (D.powered device.now)) }
+    ensures marks { marks.new ≡ marksOf (length marks.old) (reading_of treeLevels generator sealer (length marks.old) (D.slots device.now) (D.powered device.now)) }
     ensures wiped { slot.new ≡ blank }
 {
     let guard = Wiped { pad: slot };
@@ -298,7 +298,7 @@ pub fn read_file<D: ReadSlots>(
     marks: &mut [u8],
     slot: &mut [u8; 64],
 ) -> Result<Survey, Halt>
-    ensures is { result ≡ answer_of treeLevels asked (reading_of treeLevels generator sealer (length marks.old) (slots device.now) (powered device.now)) }
+    ensures is { result ≡ answer_of treeLevels asked (reading_of treeLevels generator sealer (length marks.old) (D.slots device.now) (D.powered device.now)) }
     ensures marks { marks.new ≡ zeros (length marks.old) }
     ensures wiped { slot.new ≡ blank }
     ensures laws { FileLaws }
