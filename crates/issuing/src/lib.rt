@@ -40,8 +40,8 @@ fn copy_value(slot: &[u8; 64], value: &mut [u8; 32])
 
 // Loads the value of the record in a slot.
 fn load_value<D: ReadSlots>(d: &D, index: u16, slot: &mut [u8; 64], value: &mut [u8; 32])
-    requires { (index < length (slots d.now)) × (powered d.now ≡ true) }
-    ensures { value.new ≡ value_of (slice_index_or (slots d.now) index []) }
+    requires { (index < length (D.slots d.now)) × (D.powered d.now ≡ true) }
+    ensures { value.new ≡ value_of (slice_index_or (D.slots d.now) index []) }
 {
     let _ = d.read(index as usize, slot);
     copy_value(slot, value);
@@ -49,8 +49,8 @@ fn load_value<D: ReadSlots>(d: &D, index: u16, slot: &mut [u8; 64], value: &mut 
 
 // The head with one number more issued than `issued`, in the lent slot.
 fn next_head<D: ReadSlots>(d: &D, issued: u32, slot: &mut [u8; 64])
-    requires { (0 < length (slots d.now)) × ((powered d.now ≡ true) × (issued < 65536)) }
-    ensures { slot.new ≡ recounted (issued + 1) (slice_index_or (slots d.now) 0 []) }
+    requires { (0 < length (D.slots d.now)) × ((D.powered d.now ≡ true) × (issued < 65536)) }
+    ensures { slot.new ≡ recounted (issued + 1) (slice_index_or (D.slots d.now) 0 []) }
 {
     let _ = d.read(0, slot);
     put_u32(slot, 6, issued + 1);
@@ -120,7 +120,7 @@ fn issue_found<D: WriteSlots, G: Generator, S: Sealer>(
 
 // What stops an issue before it reads: the buffers, the slot count, the record.
 fn may_issue<D: ReadSlots>(d: &D, plain: &[u8], ticket: usize, marks: usize) -> Result<(), Halt>
-    ensures { result ≡ issueEntry treeLevels (slots d.now) plain.now ticket marks }
+    ensures { result ≡ issueEntry treeLevels (D.slots d.now) plain.now ticket marks }
 {
     if ticket < TICKET_MOST || marks < room(d.count()) {
         return Err(Halt {

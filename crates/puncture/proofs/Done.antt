@@ -122,7 +122,7 @@ module _ (s : Slots) (front : List Link) (x : Link) (back new : List Link) (last
 
 -- ---- from what is given
 module _ {k : Kit} {d : ℕ} {s : Slots} {on : Bool} {count : ℕ} {found : Found} {n : ℕ} {row marks : List ℕ} {f : Sound} {front : List Link} {x : Link} {back : List Link}
-    (g : Given k d s on count found n row marks f front x back) (sized : (j : ℕ) → j < length s → length (get_or s j []) ≡ 64) where
+    (g : Given k d s on count found n row marks f front x back) where
   chain-stands : Chained d s 0 f.1
   chain-stands = sound-chain d k.generator k.sealer s f.0 f.1 g.file
 
@@ -185,12 +185,6 @@ module _ {k : Kit} {d : ℕ} {s : Slots} {on : Bool} {count : ℕ} {found : Foun
   siblings-many : length (siblingsFrom d x.node n) ≡ m
   siblings-many = length-siblings x.node.depth m x.node.first n
 
-  value-long : length x.value ≡ valueLength
-  unfolding value_of
-  value-long =
-      let e : x.value ≡ value_of (get_or s x.slot []) = ap (λ (z : Link). z.value) stands.link in
-      ap length e ∙ length-drop 32 (get_or s x.slot []) ∙ ap (λ (z : ℕ). z - 32) (sized x.slot stands.within)
-
   module _ (nodes : List Node) (is : nodes ≡ siblingsFrom d found.node n) where
     nodes-are : nodes ≡ siblingsFrom d x.node n
     nodes-are = is ∙ ap (λ (y : Node). siblingsFrom d y n) node-same
@@ -207,7 +201,7 @@ module _ {k : Kit} {d : ℕ} {s : Slots} {on : Bool} {count : ℕ} {found : Foun
         let sib = siblingsFrom d x.node n in
         let v : (j : ℕ) → j < length sib → value_at row j ≡ h (get_or sib j rootNode) = λ j l.
         ap (λ (w : List ℕ). value_at w j) g.kept
-        ∙ value-at h sib (zeros (mostLevels * valueLength - length (siblingValues k.expansion d x.node x.value n))) (λ y. follow-long k.expansion g.long x.value (way (y.depth - x.node.depth) (d - y.depth) y.first) value-long) j l in
+        ∙ value-at h sib (zeros (mostLevels * valueLength - length (siblingValues k.expansion d x.node x.value n))) (λ y. follow-long k.expansion g.long x.value (way (y.depth - x.node.depth) (d - y.depth) y.first) g.valued) j l in
         ap (λ (l : List Node). linksFor (openSlots marks count) l row) nodes-are
         ∙ links-are (openSlots marks count) sib row h v
         ∙ ap (λ (j : ℕ). linksIn (backward (openSlots marks count) j) (valued h sib)) siblings-many

@@ -28,6 +28,7 @@ pub record Given (k : Kit) (d : ℕ) (s : Slots) (on : Bool) (count : ℕ) (foun
   pub chain : f.1 ≡ front ++ (x ∷ back)
   pub finds : found ≡ between (lastSlot 0 front) x back
   pub covers : Covers d x.node n
+  pub valued : length x.value ≡ valueLength
   pub long : Lengthwise k.expansion
   pub kept : row ≡ filled (siblingValues k.expansion d x.node x.value n) (mostLevels * valueLength)
   pub wide : roomOf count ≤ length marks

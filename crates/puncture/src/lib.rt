@@ -26,7 +26,7 @@ use tree::{LEVELS, Node, ROW};
 
 /// Reads a slot; the reason why it cannot be read carries the slot.
 pub fn read_at<D: ReadSlots>(d: &D, index: u16, slot: &mut [u8; 64]) -> Result<(), Halt>
-    ensures { Fetching (slots d.now) (powered d.now) index result slot.new }
+    ensures { Fetching (D.slots d.now) (D.powered d.now) index result slot.new }
 {
     match d.read(index as usize, slot) {
         Ok(()) => Ok(()),

@@ -48,7 +48,7 @@ fn of_number(refusal: Refusal, number: u32) -> Halt
 
 // Whether buffers of so many bytes, for a state and for the marks, will do.
 fn is_roomy<D: ReadSlots>(d: &D, state: usize, marks: usize) -> bool
-    ensures { result ≡ roomy (slots d.now) state marks }
+    ensures { result ≡ roomy (D.slots d.now) state marks }
 {
     RECORD_LIMIT <= state && room(d.count()) <= marks
 }

@@ -7,7 +7,7 @@ use Rattle.puncture.proofs.puncture.Goals as goal
 
 pub returns-in_default : goal.returns-in_default
 returns-in_default g c = record {
-  did = λ k f front x back v. absurd (c.in_default.ensures.0 (way_down v (g.met.D.ReadSlots.sized c.args.d.now) (omega arith)));
+  did = λ k f front x back v. absurd (c.in_default.ensures.0 (way_down v (omega arith)));
   clean = c.drop-guard.ensures;
 }
 
@@ -18,9 +18,8 @@ pub returns-in_err-first : goal.returns-in_err-first
 returns-in_err-first g c =
     let p = err_from_is_err_and c.from_residual.result c.from_residual.ensures.1 in
     let is = listed-nodes treeLevels c.args.n c.args.found.now.node c.in-Some.many c.siblings.new.row c.in-Some.ensures in
-    let sized = g.met.D.ReadSlots.sized c.args.d.now in
     record {
-      did = λ k f front x back v. rw (p.1, p.2) (cut-records v sized _ is (c.in_err-first.ensures (is-able v sized _ is)));
+      did = λ k f front x back v. rw (p.1, p.2) (cut-records v _ is (c.in_err-first.ensures (is-able v _ is)));
       clean = c.drop-guard-in_err-first.ensures;
     }
 
@@ -28,23 +27,21 @@ pub returns-in_err-join : goal.returns-in_err-join
 returns-in_err-join g c =
     let p = err_from_is_err_and c.from_residual-in_err-join.result c.from_residual-in_err-join.ensures.1 in
     let is = listed-nodes treeLevels c.args.n c.args.found.now.node c.in-Some.many c.siblings.new.row c.in-Some.ensures in
-    let sized = g.met.D.ReadSlots.sized c.args.d.now in
     record {
       did = λ k f front x back v.
-          let l = c.in_ok-first.ensures (is-able v sized _ is) in
-          let m = may-join v sized _ is l in
-          rw (p.1, p.2) (cut-join v sized _ is l (c.in_err-join.ensures m.0 m.1));
+          let l = c.in_ok-first.ensures (is-able v _ is) in
+          let m = may-join v _ is l in
+          rw (p.1, p.2) (cut-join v _ is l (c.in_err-join.ensures m.0 m.1));
       clean = c.drop-guard-in_err-join.ensures;
     }
 
 pub returns : goal.returns
 returns g c =
     let is = listed-nodes treeLevels c.args.n c.args.found.now.node c.in-Some.many c.siblings.new.row c.in-Some.ensures in
-    let sized = g.met.D.ReadSlots.sized c.args.d.now in
     record {
       did = λ k f front x back v.
-          let l = c.in_ok-first.ensures (is-able v sized _ is) in
-          let m = may-join v sized _ is l in
-          punctured v sized _ is l (c.in_ok-join.ensures m.0 m.1) c.write_at.ensures;
+          let l = c.in_ok-first.ensures (is-able v _ is) in
+          let m = may-join v _ is l in
+          punctured v _ is l (c.in_ok-join.ensures m.0 m.1) c.write_at.ensures;
       clean = c.drop-guard-2.ensures;
     }

@@ -7,8 +7,8 @@ use Rattle.puncture.proofs.write_records.Goals as goal
 pub returns-in_default : goal.returns-in_default
 returns-in_default g c = λ a. absurd (some_left (c.loop-left.invariant.1 a) _ a c.loop-left-test.true (sym c.first_unmarked.ensures ∙ c.in_default.is))
 
-pub overflow-cast-next : goal.overflow-cast-next
-overflow-cast-next g c =
+pub overflow_cast-next : goal.overflow_cast-next
+overflow_cast-next g c =
     let h : c.in-Some.free < c.args.count = first_small c.args.marks.now c.loop-left.from c.args.count c.in-Some.free (sym c.first_unmarked.ensures ∙ c.in-Some.is) in
     omega arith
 
