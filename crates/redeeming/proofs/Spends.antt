@@ -97,6 +97,7 @@ module _ {k : Kit} {d : ℕ} {s : Slots} {on : Bool} {ticket : List ℕ} {room c
       chain = z.hit.chain;
       finds = z.finds;
       covers = subst (Covers d x.node) (sym en) z.hit.covers;
+      valued = w.valued;
       long = long;
       kept = w.beside;
       wide = z.wide;

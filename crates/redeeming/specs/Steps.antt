@@ -62,9 +62,10 @@ pub record Met (d : ℕ) (s : Slots) (on : Bool) (found : Found) (n : ℕ) (x : 
   pub power : on ≡ true
   pub above : Above d x.node n
 
--- n's key follows from the value of x, and the siblings' values are kept in a row
+-- x's value has its length, n's key follows from it, and the siblings' values are kept in a row
 pub record Derived (e : Expansion) (d n : ℕ) (x : Link) (r : Result ℕ Halt) (key row : List ℕ) : Type 0 where
   pub calls : r ≡ Ok (d - x.node.depth)
+  pub valued : length x.value ≡ valueLength
   pub keyed : key ≡ keyFrom e d x.node x.value n
   pub beside : row ≡ filled (siblingValues e d x.node x.value n) (mostLevels * valueLength)
 

@@ -10,7 +10,7 @@ ghost use Rattle.tree.specs.Nodes.{treeLevels};
 ghost use Rattle.marks.specs.Rows.{roomOf};
 ghost use Rattle.chain.specs.Reading.{Link};
 ghost use Rattle.scratch.specs.Clean.{Clean};
-ghost use Rattle.rules.specs.Kits.{Kit, kitOf, nameLength, headingLength, overheadMost};
+ghost use Rattle.rules.specs.Kits.{Kit, kitOf, nameLength, headingLength, overheadMost, valueLength};
 ghost use Rattle.rules.specs.Tickets.{nameIn, number_in, headingIn, sealedIn};
 ghost use Rattle.rules.specs.Calls.{Sound, sameBytes, redeemable, Redeeming, kept};
 ghost use Rattle.redeeming.specs.Steps.{roomy, ticketFits, Entering, passing, Surveying, Met, Derived, Unsealing, Spotted};
@@ -139,7 +139,8 @@ fn admit<D: ReadSlots>(
 
 // The value in a record.
 fn copy_value(slot: &[u8; 64], value: &mut [u8; 32])
-    ensures { value.new ≡ value_of slot.now }
+    ensures is { value.new ≡ value_of slot.now }
+    ensures long { length (value_of slot.now) ≡ valueLength }
 {
     value.copy_from_slice(&slot[32..64]);
 }
