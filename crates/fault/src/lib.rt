@@ -1,8 +1,12 @@
 //! What a declined call tells: the refusal, the call, the layer and the place.
-ghost use Rattle.std.specs.Prelude.{◌≡◌};
-ghost use Rattle.fault.specs.Faults.{layerOf, faultOf};
+#![tactic(auto)]
+
+ghost use Rattle.std.specs.Prelude.{◌≡◌, Some};
+ghost use Rattle.fault.specs.Faults.{layerOf, faultOf, plainly, placed, unpowered};
+ghost use Rattle.fault.specs.Words.{call_words, layer_words, step_words, fault_words};
 
 use refusal::Refusal;
+use std::fmt;
 
 /// The calls that can be declined.
 #[derive(Clone, Copy, PartialEq, Eq, Debug)]
@@ -77,6 +81,37 @@ pub fn layer_of(refusal: Refusal) -> Layer
 }
 
 impl Halt {
+    /// Stopped by a refusal that speaks of no slot and no number.
+    pub fn plain(refusal: Refusal) -> Halt
+        ensures { result ≡ plainly refusal }
+    {
+        Halt {
+            refusal,
+            place: 0,
+            step: None,
+        }
+    }
+
+    /// Stopped by a refusal that speaks of a slot or a ticket number.
+    pub fn at(refusal: Refusal, place: u32) -> Halt
+        ensures { result ≡ placed refusal place }
+    {
+        Halt {
+            place,
+            ..Halt::plain(refusal)
+        }
+    }
+
+    /// Stopped by want of power at a slot, in a step.
+    pub fn unpowered(slot: u32, step: Step) -> Halt
+        ensures { result ≡ unpowered slot step }
+    {
+        Halt {
+            step: Some(step),
+            ..Halt::at(Refusal::NoPower, slot)
+        }
+    }
+
     /// The fault that this is in a call.
     pub fn during(self, call: Call) -> Fault
         ensures { result ≡ faultOf call self }
@@ -87,6 +122,74 @@ impl Halt {
             layer: layer_of(self.refusal),
             place: self.place,
             step: self.step,
+        }
+    }
+}
+
+impl fmt::Display for Call {
+    ghost output = { λ c. Some (call_words c) };
+
+    fn fmt<W: fmt::Write>(&self, f: &mut fmt::Formatter<W>) -> fmt::Result {
+        f.write_str(match self {
+            Call::Make => "make",
+            Call::Issue => "issue",
+            Call::Redeem => "redeem",
+            Call::Reopen => "reopen",
+        })
+    }
+}
+
+impl fmt::Display for Layer {
+    ghost output = { λ l. Some (layer_words l) };
+
+    fn fmt<W: fmt::Write>(&self, f: &mut fmt::Formatter<W>) -> fmt::Result {
+        f.write_str(match self {
+            Layer::Server => "server",
+            Layer::Chain => "chain",
+            Layer::Device => "device",
+        })
+    }
+}
+
+impl fmt::Display for Step {
+    ghost output = { λ a. Some (step_words a) };
+
+    fn fmt<W: fmt::Write>(&self, f: &mut fmt::Formatter<W>) -> fmt::Result {
+        f.write_str(match self {
+            Step::Make => "make",
+            Step::Read => "read",
+            Step::Head => "head",
+            Step::NewRecord => "new record",
+            Step::Join => "join",
+            Step::Erasure => "erasure",
+            Step::Sweep => "sweep",
+            Step::Restart => "restart",
+        })
+    }
+}
+
+/// One sentence that names all that the fault carries.
+impl fmt::Display for Fault {
+    ghost output = { λ t. Some (fault_words t) };
+
+    fn fmt<W: fmt::Write>(&self, f: &mut fmt::Formatter<W>) -> fmt::Result {
+        let Fault {
+            refusal,
+            call,
+            layer,
+            place,
+            step,
+        } = *self;
+        let number = refusal.number();
+        match step {
+            Some(step) => write!(
+                f,
+                "{call} met a power cut: refusal {number} ({refusal}), layer {layer}, step {step}, slot {place}"
+            ),
+            None => write!(
+                f,
+                "{call} is refused: refusal {number} ({refusal}), layer {layer}, place {place}"
+            ),
         }
     }
 }

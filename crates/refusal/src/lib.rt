@@ -1,6 +1,11 @@
 //! Why a call is declined: the sixteen refusals and their numbers.
-ghost use Rattle.std.specs.Prelude.{◌≡◌};
+#![tactic(auto)]
+
+ghost use Rattle.std.specs.Prelude.{◌≡◌, Some};
 ghost use Rattle.refusal.specs.Numbers.{number_of};
+ghost use Rattle.refusal.specs.Words.{words_of};
+
+use std::fmt;
 
 /// The refusals, in the order in which a call tries them.
 #[derive(Clone, Copy, PartialEq, Eq, Debug)]
@@ -62,5 +67,31 @@ impl Refusal {
             Refusal::NoPower => 15,
             Refusal::NoSuchSlot => 16,
         }
+    }
+}
+
+/// The refusal in words, as it is printed after its number.
+impl fmt::Display for Refusal {
+    ghost output = { λ w. Some (words_of w) };
+
+    fn fmt<W: fmt::Write>(&self, f: &mut fmt::Formatter<W>) -> fmt::Result {
+        f.write_str(match self {
+            Refusal::ShortBuffer => "too short a buffer or too long a plain",
+            Refusal::SlotCount => "too few or too many slots",
+            Refusal::NotARecord => "no state record",
+            Refusal::BadHead => "a head that does not fit",
+            Refusal::BadLink => "a record that does not fit",
+            Refusal::Uncovered => "an unissued number under no record",
+            Refusal::Exhausted => "every number is issued",
+            Refusal::TicketLength => "a ticket too short or too long",
+            Refusal::OtherName => "another key name",
+            Refusal::NotIssued => "not issued",
+            Refusal::Spent => "spent",
+            Refusal::SealBroken => "the seal does not open",
+            Refusal::OpenedNotARecord => "no state record under the seal",
+            Refusal::NoFreeSlot => "too few free slots",
+            Refusal::NoPower => "no power",
+            Refusal::NoSuchSlot => "no such slot",
+        })
     }
 }
