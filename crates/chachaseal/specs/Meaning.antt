@@ -5,7 +5,7 @@ use Rattle.chacha.specs.Cipher.{block_of}
 use Rattle.hmac.specs.Mac.{hmac}
 use Rattle.sealing.specs.Covering.{sealingOf}
 
--- the keystream: the ChaCha20 blocks of the key and a zero nonce, at the counters 1, 2, ..
+-- the keystream: its block i is the ChaCha20 block at the counter i + 1, where the nonce is zero
 unfoldable pub streamBlock : List ℕ → ℕ → List ℕ
 streamBlock key i = block_of key (1 + i) (zeros 12)
 

@@ -31,7 +31,8 @@ abbrev pub Reading : Slots → Bool → ℕ → Answer → Slot → Type 0
 Reading s on i (Ok _) out = (i < length s) × (on ≡ true) × (out ≡ slice_index_or s i [])
 Reading s on i (Err e) out = Declined s on i e × (out ≡ blank)
 
--- a whole write: done, and that slot alone is new; or declined, and nothing changes; or cut, and the slot is old or new and the power is off
+-- A whole write. Done: the slot holds the new bytes, and no other slot changes. Declined: nothing changes. Cut: the power is off, and the
+-- slot holds all of its old bytes or all of the new.
 abbrev pub Writing : Slots → Bool → ℕ → Slot → Answer → Slots → Bool → Type 0
 Writing s on i b (Ok _) t on' = (i < length s) × (on ≡ true) × (t ≡ slice_set s i b) × (on' ≡ true)
 Writing s on i b (Err e) t on' =
@@ -49,7 +50,7 @@ Tearing s on i b (Err e) t on' =
     (Declined s on i e × (t ≡ s) × (on' ≡ on))
     ⊎ ((e ≡ NoPower) × (i < length s) × (on ≡ true) × ((m : ℕ) × (m ≤ slotSize) × (t ≡ slice_set s i (torn m (slice_index_or s i []) b))) × (on' ≡ false))
 
--- a restart: done with the power on, or cut with the power off; the slots stay
+-- a restart changes no slot; after one that is done the power is on, after one that is cut it is off
 abbrev pub Restarting : Slots → Answer → Slots → Bool → Type 0
 Restarting s (Ok _) t on' = (t ≡ s) × (on' ≡ true)
 Restarting s (Err e) t on' = (e ≡ NoPower) × (t ≡ s) × (on' ≡ false)

@@ -6,7 +6,7 @@ use Rattle.sha.specs.Digest.{sha256}
 use Rattle.tree.specs.Values.{Expansion}
 use Rattle.generator.specs.Bytes.{valueLength}
 
--- the ChaCha20 block of the parent's value as key, with counter 0 and a nonce of zeros
+-- one ChaCha20 block, keyed with the parent's value, where counter and nonce are zero
 abbrev pub childBlock : List ℕ → List ℕ
 childBlock v = block_of v 0 (zeros 12)
 

@@ -13,8 +13,8 @@ ghost use Rattle.sha.proofs.Digests.{digest-long, digest-bytes};
 use generator::Generator;
 use sha::Sha256;
 
-/// Generator 1: the ChaCha20 block of the parent's value as key, counter 0 and a nonce of zeros; the first half of the
-/// block is the left child's value and the second the right child's.
+/// Generator 1: one ChaCha20 block, keyed with the parent's value, where counter and nonce are zero. Its first half goes to
+/// the left child, its second half to the right child.
 #[derive(Clone, Copy)]
 pub struct ChaChaGenerator;
 

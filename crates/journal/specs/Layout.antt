@@ -1,4 +1,5 @@
--- How a journal lies in the slots below it, and which slots it shows: slot 0 below is the mark, slot 1 the copy, slot i + 2 holds slot i.
+-- How a journal lies in the slots below it, and which slots it shows. The lowest two below are the mark and the copy; the journal's own
+-- slots have their places after these, from slot 2 on.
 use Rattle.std.specs.Prelude.{ℕ, zero, suc, ◌+◌, ◌*◌, ◌/◌, ◌%◌, cond, [], ◌∷◌, length, take, drop, replicate, Some, None, Option, nat_lt, slice_index, slice_index_or, slice_set}
 use Rattle.device.specs.Effects.{Slot, Slots, blank}
 

@@ -1,8 +1,8 @@
 //! A device of whole writes over any device whose writes can tear.
 //!
-//! Below, slot 0 is the mark, slot 1 the copy, and slot i + 2 holds slot i. The mark's byte 0 is a flag and its bytes 1 and 2 are a
-//! target. Where the flag is 1 the copy stands for the target; a write raises the flag only once copy and target are in place, and
-//! lowers it once the slot itself is written. A tear of any one of these writes leaves the old slot or the new one.
+//! The lowest two slots below are the mark and the copy, and the journal's own lie after them. The mark's byte 0 is a flag and its
+//! bytes 1 and 2 are a target. Where the flag is 1 the copy stands for the target; a write raises the flag only once copy and target
+//! are in place, and lowers it once the slot itself is written. A tear of any one of these writes leaves the old slot or the new one.
 ghost use Rattle.std.specs.Prelude.{◌≡◌, ◌+◌, ◌<◌, ◌≤◌, length, Some, None, Decides};
 ghost use Rattle.device.specs.Effects.{Writing, Restarting, blank};
 ghost use Rattle.journal.specs.Layout.{shown, mostSlots, markIn, pendingIn};

@@ -26,11 +26,11 @@ pub record CoverLaw (k : Kit) (d : ℕ) (root name : List ℕ) (s : Slots) (b : 
   pub read : fileOf d k.generator k.sealer s ≡ sound head links
   pub counted : head.issued ≡ b.issued
   pub named : head.name ≡ name
-  -- the chain is the cover of the spent numbers with the tree's values,
+  -- the chain's nodes are the cover, in order, each with its value in the tree,
   pub covers : map valuedOf links ≡ valuedCover k.expansion d root b.spent
-  -- a key can be worked out from it exactly when its number is unspent,
+  -- the chain leads to a number's key just where that number is unspent,
   pub keys : (n : ℕ) → n < 2 ^ d → WorkedOut k.expansion d (map valuedOf links) n (key_of k.expansion d root n) ↔ (In n b.spent → ⊥)
-  -- and no nodes that cover just the unspent numbers are fewer
+  -- and it takes at least as many nodes to cover the unspent numbers and no spent one
   pub least : (ys : List Node) → CoversExactly d b.spent ys → length links ≤ length ys
 
 -- ---- once, and its own
@@ -39,11 +39,12 @@ abbrev pub Uncut : Outcome → Type 0
 Uncut r = (h : Halt) → r ≡ Err h → number_of h.refusal ≢ 15
 
 pub record OnceLaw (k : Kit) (d : ℕ) (root name : List ℕ) (m : Mode) (s : Slots) (on : Bool) (b : Book) : Type 0 where
-  -- at most one redemption of a number yielded a state
+  -- of the redemptions that gave a state no two were of one number
   pub once : Distinct b.opened
-  -- a ticket given is the heading and the record sealed under its number's key
+  -- each ticket that was handed out is its heading and its record, sealed under the key of its number
   pub tickets : (g : Given) → In g b.given → g.ticket ≡ ticketOf k name g.number (key_of k.expansion d root g.number) g.state
-  -- while its number is unspent it yields its own state, if redeemed next with long enough buffers, enough free slots and no cut
+  -- a ticket whose number is not spent opens as what it was issued for, when it is the next to be redeemed: the buffers must be long
+  -- enough, enough slots free, and no cut may come
   pub opens : m ≡ running → (g : Given) → In g b.given → (In g.number b.spent → ⊥) →
       (x : Node) → In x (cover d b.spent) → Covers d x g.number → d - x.depth ≤ length s - 1 - length (cover d b.spent) →
       (room marks : ℕ) → mostLength ≤ room → roomOf (length s) ≤ marks →
@@ -70,7 +71,8 @@ pub data Served (k : Kit) (d : ℕ) : Slots → Bool → List Ask → List Reply
       Redeeming k d s on ticket room marks r state t on' joined → Uncut r → Served k d t on' asks replies →
       Served k d s on (redeeming ticket room marks ∷ asks) (record { outcome = r; buffer = state } ∷ replies)
 
--- two trees, of which each node that covers no spent number has one value in both, at servers with one sealer, slot count, issued count and the same numbers spent
+-- Two trees to be compared. Their servers have the same sealing, overhead and slot count, as many numbers issued and the same ones spent,
+-- and each node over unspent numbers alone has the same value in both.
 pub record Agree (d : ℕ) (k : Kit) (root : List ℕ) (s : Slots) (b : Book) (k' : Kit) (root' : List ℕ) (s' : Slots) (b' : Book) : Type 0 where
   pub sealing : k.sealing ≡ k'.sealing
   pub overhead : k.overhead ≡ k'.overhead

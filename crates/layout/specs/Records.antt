@@ -13,8 +13,8 @@ abbrev pub allZero : List ℕ → Bool
 allZero [] = true
 allZero (b ∷ bs) = b == 0 && allZero bs
 
--- ---- the head: byte 0 is 1, byte 1 the levels, then two zeros, the first index in 2 bytes, the count of issued
--- numbers in 4, the key name in 16, the numbers of the generator and of the sealer, and zeros
+-- ---- the head, field by field: 1 and the levels (a byte each), two zeros, the first index (2 bytes), how many numbers
+-- are issued (4), the key name (16), the generator's number and the sealer's (a byte each), and zeros
 unfoldable pub encodeHead : ℕ → Head → List ℕ
 encodeHead d h = 1 ∷ d ∷ 0 ∷ 0 ∷ (bytes_of 2 h.first ++ (bytes_of 4 h.issued ++ (h.name ++ (h.generator ∷ h.sealer ∷ zeros 36))))
 
@@ -36,8 +36,8 @@ isHead d bs = slice_index bs 0 == 1 && (slice_index bs 1 == d && (allZero (part 
 unfoldable pub head_of : ℕ → List ℕ → Option Head
 head_of d bs = cond (isHead d bs) (Some (headFields bs)) None
 
--- ---- a node record: byte 0 is 2, byte 1 the depth, the first number and the next index in 2 bytes each, 26 zeros,
--- and the value in 32 bytes
+-- ---- a node record, field by field: 2 and the depth (a byte each), the first number and the next index (2 bytes each),
+-- 26 zeros, and the value (32)
 unfoldable pub encodeNode : NodeFields → List ℕ → List ℕ
 encodeNode x v = 2 ∷ x.depth ∷ (bytes_of 2 x.first ++ (bytes_of 2 x.next ++ (zeros 26 ++ v)))
 

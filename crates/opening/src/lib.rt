@@ -169,7 +169,7 @@ fn restart_and_sweep<D: WriteSlots>(
     sweep(d, count, marks, slot)
 }
 
-/// Reopens the tree on a device: restarts it, reads its file, and puts zeros to every free slot that is not zero.
+/// Reopens the tree on a device: restarts it, reads its file, and clears the free slots that hold anything but zeros.
 /// The marks and the lent slot hold zeros afterwards.
 pub fn reopen_on<D: WriteSlots>(
     d: &mut D,

@@ -276,9 +276,9 @@ fn redeem_in<D: WriteSlots, G: Generator, S: Sealer>(
     )
 }
 
-/// Redeems a ticket: opens its state into the buffer, from the start and with zeros after it, once the tree is punctured at
-/// its number, and answers the state's length and the generator calls made. A refused call leaves zeros in the buffer, and
-/// every call leaves zeros in the marks and the scratch.
+/// Redeems a ticket: punctures the tree at its number, and only then gives its state, at the start of the buffer and with
+/// zeros after it. Answers how long the state is and how often the generator was called. A refused call leaves zeros in the
+/// buffer, and every call leaves zeros in the marks and the scratch.
 pub fn redeem_on<D: WriteSlots, G: Generator, S: Sealer>(
     d: &mut D,
     g: &G,

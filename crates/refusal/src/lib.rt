@@ -10,13 +10,13 @@ use std::fmt;
 /// The refusals, in the order in which a call tries them.
 #[derive(Clone, Copy, PartialEq, Eq, Debug)]
 pub enum Refusal {
-    /// a buffer to write is too short, or a plain to seal too long
+    /// a lent buffer is shorter than what goes into it may be, or a plain is too long to be sealed
     ShortBuffer,
     /// the device has too few or too many slots
     SlotCount,
     /// the bytes, or the fields, are no state record
     NotARecord,
-    /// the head is not laid out as it should be, or names another generator or sealer
+    /// slot 0 holds no head, or one of a tree with another generator or sealer
     BadHead,
     /// a record of the chain is not laid out as it should be, or does not belong where it stands
     BadLink,
@@ -38,7 +38,7 @@ pub enum Refusal {
     OpenedNotARecord,
     /// too few slots are free
     NoFreeSlot,
-    /// the power is off, or fails
+    /// there is no power, or it fails during the call
     NoPower,
     /// the device has no such slot
     NoSuchSlot,

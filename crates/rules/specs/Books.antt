@@ -39,7 +39,7 @@ abbrev pub noted : Bool → ℕ → List ℕ → List ℕ
 noted true n ns = n ∷ ns
 noted false n ns = ns
 
--- a ticket given has the record issued as its own state
+-- the tickets once an issue is answered: one that it handed out is noted, and its state is the plain that was to be sealed
 abbrev pub withTicket : Outcome → ℕ → List ℕ → List ℕ → List Given → List Given
 withTicket (Ok a) n buffer plain gs = record { number = n; ticket = take a.0 buffer; state = plain } ∷ gs
 withTicket (Err h) n buffer plain gs = gs
@@ -48,7 +48,9 @@ abbrev pub withOpened : Outcome → ℕ → List ℕ → List ℕ
 withOpened (Ok a) n ns = n ∷ ns
 withOpened (Err h) n ns = ns
 
--- an issue whose head write stands adds one to the issued; a redemption whose join stands spends the number in its ticket's heading; nothing else changes these
+-- The book after a call. Issuing counts one more number once the head's write stands; redeeming notes the number that its ticket names as
+-- spent once the join stands. A ticket handed out and a number opened are noted only where the call was not refused. The other calls
+-- change nothing.
 abbrev pub fed : Book → Deed → Book
 fed b (issue plain r ticket headed) = record {
   issued = raised headed b.issued;

@@ -1,7 +1,7 @@
 //! What a sealer is: it turns a plain into sealed bytes under a key and a heading, and back.
 //!
-//! A sealer means, for a key of 32 bytes and a heading of 20, a sealing of each plain that is not longer than the
-//! longest session record. What sealing and opening leave behind stands in specs/Outcomes.antt.
+//! Under a key of 32 bytes and a heading of 20, each plain up to the length of the longest session record has one row of
+//! sealed bytes, its sealing. What sealing and opening leave behind stands in specs/Outcomes.antt.
 ghost use Rattle.std.specs.Prelude.{◌≡◌, ℕ, ◌+◌, ◌<◌, ◌≤◌, List, length};
 ghost use Rattle.octets.specs.Buffers.{zeros};
 ghost use Rattle.sealer.specs.Limits.{plainLimit, overheadLimit};

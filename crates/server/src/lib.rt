@@ -1,6 +1,6 @@
 //! The ticket server: make a tree, issue and redeem its tickets, close and reopen it.
 //!
-//! A server is a device, a generator and a sealer put together, cold or running. Only a running one issues and redeems,
+//! A server owns its device, generator and sealer, and is cold or running. Only a running one issues and redeems,
 //! and a call that meets a power cut gives a cold one back, so going on without reopening does not compile.
 //! What each call does stands in crate `rules`, the law over the pasts of a tree in crate `law`.
 ghost use Rattle.std.specs.Prelude.{◌≡◌, length};
