@@ -182,9 +182,9 @@ module _ (reads : ReadsBack) (spending : RedeemKeeps) (d : ℕ) (small : d ≤ 1
       let b1 = fed b (issue plain c.r c.ticket c.headed) in
       let b1' = fed b' (issue plain c'.r c'.ticket c'.headed) in
       let w = subst (λ (m : Mode). Inv k d root name m c.t c.on' b1) (uncut-running c.r c.uncut)
-      (issue-keeps reads k d root name s on b plain room marks c.r c.ticket c.t c.on' c.headed law small v c.call) in
+      (issue-keeps reads k d root name s on b plain room marks c.r c.ticket c.t c.on' c.headed small v c.call) in
       let w' = subst (λ (m : Mode). Inv k' d root' name m c'.t c'.on' b1') (uncut-running c'.r c'.uncut)
-      (issue-keeps reads k' d root' name s' on' b' plain room marks c'.r c'.ticket c'.t c'.on' c'.headed law' small v' c'.call) in
+      (issue-keeps reads k' d root' name s' on' b' plain room marks c'.r c'.ticket c'.t c'.on' c'.headed small v' c'.call) in
       let n = issue-agree d k root s c.t b k' root' s' c'.t b' plain c.r c'.r c.ticket c'.ticket c.headed c'.headed a
       (issue-length k d s on plain room marks c.r c.ticket c.t c.on' c.headed c.call)
       (issue-length k' d s' on' plain room marks c'.r c'.ticket c'.t c'.on' c'.headed c'.call) o.counts in
@@ -198,9 +198,9 @@ module _ (reads : ReadsBack) (spending : RedeemKeeps) (d : ℕ) (small : d ≤ 1
       let b1 = fed b (redeem ticket c.r c.joined) in
       let b1' = fed b' (redeem ticket c'.r c'.joined) in
       let w = subst (λ (m : Mode). Inv k d root name m c.t c.on' b1) (uncut-running c.r c.uncut)
-      (spending k d root name s on b ticket room marks c.r c.state c.t c.on' c.joined law small v c.call) in
+      (spending k d root name s on b ticket room marks c.r c.state c.t c.on' c.joined small v c.call) in
       let w' = subst (λ (m : Mode). Inv k' d root' name m c'.t c'.on' b1') (uncut-running c'.r c'.uncut)
-      (spending k' d root' name s' on' b' ticket room marks c'.r c'.state c'.t c'.on' c'.joined law' small v' c'.call) in
+      (spending k' d root' name s' on' b' ticket room marks c'.r c'.state c'.t c'.on' c'.joined small v' c'.call) in
       let n = redeem-agree d k root s c.t b k' root' s' c'.t b' ticket c.r c'.r c.joined c'.joined a
       (redeem-length k d s on ticket room marks c.r c.state c.t c.on' c.joined c.call)
       (redeem-length k' d s' on' ticket room marks c'.r c'.state c'.t c'.on' c'.joined c'.call) o.counts in
@@ -230,5 +230,5 @@ pub alike : ReadsBack → RedeemKeeps → (k k' : Kit) (root root' name : List �
 alike reads spending k k' root root' name s s' on on' b b' law law' p p' a =
     let small : treeLevels ≤ 16 = omega arith in
     alike-law reads spending k k' treeLevels root root' name s s' on on' b b' law law' small
-    (past-keeps reads spending k treeLevels root name running s on b law small p)
-    (past-keeps reads spending k' treeLevels root' name running s' on' b' law' small p') a
+    (past-keeps reads spending k treeLevels root name running s on b small p)
+    (past-keeps reads spending k' treeLevels root' name running s' on' b' small p') a

@@ -2,7 +2,6 @@
 use Rattle.std.proofs.Common.{◌≡◌, ℕ, ◌+◌, ◌-◌, ◌^◌, ◌<◌, ◌≤◌, Bool, true, ◌&&◌, ltb, leb, ◌↔◌, List, ◌∷◌, ◌++◌, length, Ok, Err, sym, refl, ap, ◌∙◌, subst, ap₂, inl, arith, pow_mono}
 use Rattle.std.proofs.lemmas.Bool.{and_from, le-leb, lt-ltb, cond-true}
 use Rattle.octets.specs.Buffers.{filled}
-use Rattle.refusal.specs.Numbers.{number_of}
 use Rattle.refusal.specs.declared.Refusal.TheVariants.{NoFreeSlot}
 use Rattle.fault.specs.Faults.{placed}
 use Rattle.fault.specs.declared.Halt.{Halt}
@@ -27,7 +26,7 @@ use Rattle.rules.specs.Files.{entry, freeCount}
 use Rattle.rules.specs.Calls.{Sound, Outcome, countFits, readAs, read_by, sameBytes, redeemable, redeemVerdict, Hit, Seals, Redeeming, declined, spent, shut, strange, full, cut, opened}
 use Rattle.rules.specs.Books.{Given, Book}
 use Rattle.rules.specs.Pasts.{Mode, running}
-use Rattle.law.specs.Law.{CoverLaw, Uncut, OnceLaw}
+use Rattle.law.specs.Law.{CoverLaw, Uncut, OnceLaw, RestBlank}
 use Rattle.law.proofs.Invariant.{headFor, Inv, ReadsBack}
 use Rattle.law.proofs.ReadsBack.{cover-link, nodes-are, as_many, link-of}
 use Rattle.law.proofs.TicketParts.{follow-long, same_self, heading-long, heading-in, sealed-in, name_in, number-in, ticket-long}
@@ -47,6 +46,9 @@ pub reads_so : ReadsBack → (k : Kit) (d : ℕ) (root name : List ℕ) (m : Mod
     fileOf d k.generator k.sealer s ≡ sound (headIn k d root name m s on b v) v.links
 reads_so reads k d root name m s on b l v = reads k d root name b.issued b.spent s v.links l v.stands v.named v.counted v.below v.covers
 
+sound-links : (g h : Head) (xs ys : List Link) → sound g xs ≡ sound h ys → xs ≡ ys
+sound-links g h xs ys e = cc
+
 -- ---- the chain is the cover
 pub cover-law : ReadsBack → (k : Kit) (d : ℕ) (root name : List ℕ) (m : Mode) (s : Slots) (on : Bool) (b : Book) → d ≤ 16 → Inv k d root name m s on b → CoverLaw k d root name s b
 cover-law reads k d root name m s on b l v =
@@ -63,6 +65,13 @@ cover-law reads k d root name m s on b l v =
       least = λ ys c.
           omega (arith, as_many (value_of k.expansion d root) v.links (cover d b.spent) v.covers, least d b.spent ys c);
     }
+
+-- a chain that is read is the one that stands, so the slots beside it are zero
+pub rest-read : ReadsBack → (k : Kit) (d : ℕ) (root name : List ℕ) (s : Slots) (on : Bool) (b : Book) → d ≤ 16 → Inv k d root name running s on b →
+    (h : Head) (xs : List Link) → fileOf d k.generator k.sealer s ≡ sound h xs → RestBlank s xs
+rest-read reads k d root name s on b l v h xs e =
+    let q : v.links ≡ xs = sound-links (headIn k d root name running s on b v) h v.links xs (sym (reads_so reads k d root name running s on b l v) ∙ e) in
+    subst (λ (ys : List Link). RestBlank s ys) q (v.rest refl)
 
 -- ---- its own
 -- a ticket given, whose number is unspent and lies under the node x of the cover
@@ -192,7 +201,7 @@ module _ (reads : ReadsBack) (at_least_lem : AtLeast) (at_most : AtMost) (k : Ki
       let e2 : y.node.depth ≡ x.depth = ap (λ (z : Node). z.depth) n in
       absurd (omega arith)
   opens-own free room marks lr lm r state t on' joined (cut f front y back plain fs m h hit se ready short e o z j) unc =
-      absurd (unc h e (ap (λ (w : Halt). number_of w.refusal) short.halt))
+      absurd (unc h e (ap (λ (w : Halt). w.refusal) short.halt))
   opens-own free room marks lr lm r state t on' joined (opened f front y back plain fs h se ready tq o j e st) unc =
       let i = hit-in room marks lr lm f front y back h in
       let p : plain ≡ g.state = plain-is y i h.covers plain se in

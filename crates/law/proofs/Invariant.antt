@@ -1,5 +1,5 @@
 -- What holds of a tree's slots and of its book after every past, and the lemmas that the law is put together from.
-use Rattle.std.proofs.Common.{◌≡◌, ℕ, ◌+◌, ◌-◌, ◌^◌, ◌<◌, ◌≤◌, Bool, true, false, List, [], ◌∷◌, map, length, get_or, Result}
+use Rattle.std.proofs.Common.{◌≡◌, ℕ, ◌^◌, ◌<◌, ◌≤◌, Bool, true, List, [], ◌∷◌, map, length, get_or, Result}
 use Rattle.device.specs.Effects.{Slots}
 use Rattle.fault.specs.declared.Halt.{Halt}
 use Rattle.layout.specs.declared.Head.{Head}
@@ -8,12 +8,12 @@ use Rattle.session.specs.Records.{isRecord}
 use Rattle.tree.specs.Cover.{In, Distinct}
 use Rattle.tree.specs.Values.{key_of, valuedCover}
 use Rattle.chain.specs.Reading.{Link, valuedOf, slots_of, fileOf, sound}
-use Rattle.rules.specs.Kits.{Kit, Lawful, valueLength, nameLength}
+use Rattle.rules.specs.Kits.{Kit, valueLength, nameLength}
 use Rattle.rules.specs.Tickets.{ticketOf}
 use Rattle.rules.specs.Files.{entry, recordOf}
-use Rattle.rules.specs.Calls.{Outcome, countFits, Making, Issuing, Redeeming, Reopening}
+use Rattle.rules.specs.Calls.{Outcome, countFits, Making, Issuing, Redeeming}
 use Rattle.rules.specs.Books.{Given, Book, freshBook, issue, redeem, fed}
-use Rattle.rules.specs.Pasts.{Mode, running, cold, modeAfter, mode_of, Past}
+use Rattle.rules.specs.Pasts.{Mode, running, modeAfter, mode_of, Past}
 use Rattle.law.specs.Law.{RestBlank}
 
 -- each link stands in its slot as a record that leads to the next, the last one on to i
@@ -61,13 +61,13 @@ MakeKeeps = (k : Kit) (d : ℕ) (root name : List ℕ) (s : Slots) (on : Bool) (
 
 abbrev pub IssueKeeps : Type 0
 IssueKeeps = (k : Kit) (d : ℕ) (root name : List ℕ) (s : Slots) (on : Bool) (b : Book) (plain : List ℕ) (room marks : ℕ) (r : Outcome) (ticket : List ℕ) (t : Slots) (on' headed : Bool) →
-    Lawful k → d ≤ 16 → Inv k d root name running s on b → Issuing k d s on plain room marks r ticket t on' headed →
+    d ≤ 16 → Inv k d root name running s on b → Issuing k d s on plain room marks r ticket t on' headed →
     Inv k d root name (modeAfter r) t on' (fed b (issue plain r ticket headed))
 
 abbrev pub RedeemKeeps : Type 0
 RedeemKeeps = (k : Kit) (d : ℕ) (root name : List ℕ) (s : Slots) (on : Bool) (b : Book) (ticket : List ℕ) (room marks : ℕ) (r : Outcome) (state : List ℕ) (t : Slots) (on' joined : Bool) →
-    Lawful k → d ≤ 16 → Inv k d root name running s on b → Redeeming k d s on ticket room marks r state t on' joined →
+    d ≤ 16 → Inv k d root name running s on b → Redeeming k d s on ticket room marks r state t on' joined →
     Inv k d root name (modeAfter r) t on' (fed b (redeem ticket r joined))
 
 abbrev pub PastKeeps : Type 0
-PastKeeps = (k : Kit) (d : ℕ) (root name : List ℕ) (m : Mode) (s : Slots) (on : Bool) (b : Book) → Lawful k → d ≤ 16 → Past k d root name m s on b → Inv k d root name m s on b
+PastKeeps = (k : Kit) (d : ℕ) (root name : List ℕ) (m : Mode) (s : Slots) (on : Bool) (b : Book) → d ≤ 16 → Past k d root name m s on b → Inv k d root name m s on b

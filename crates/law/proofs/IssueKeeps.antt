@@ -165,13 +165,13 @@ module _ (reads : ReadsBack) (k : Kit) (d : ℕ) (root name : List ℕ) (s : Slo
       (λ n j. elim j [ inl e ↦ subst (λ (q : Given). Own k d root name (b.issued + 1) q) (sym e) own | inr l ↦ owned k d root name running s on b v n l ])
 
 pub issue-keeps : (reads : ReadsBack) → IssueKeeps
-issue-keeps reads k d root name s on b plain room marks r ticket t on' headed law small v (declined h verdict e u q) =
+issue-keeps reads k d root name s on b plain room marks r ticket t on' headed small v (declined h verdict e u q) =
     subst₃ (λ (r : Outcome) (t : Slots) (headed : Bool). Inv k d root name (modeAfter r) t on' (fed b (issue plain r ticket headed))) (sym e) (sym u.slots) (sym q)
     (subst (λ (o : Bool). Inv k d root name (modeAfter (Err h)) s o b) (sym u.power) (still k d root name s on b (modeAfter (Err h)) v))
-issue-keeps reads k d root name s on b plain room marks r ticket t on' headed law small v (cut f m h verdict c e p z q) =
+issue-keeps reads k d root name s on b plain room marks r ticket t on' headed small v (cut f m h verdict c e p z q) =
     subst₂ (λ (r : Outcome) (headed : Bool). Inv k d root name (modeAfter r) t on' (fed b (issue plain r ticket headed))) (sym e) (sym q)
     (stopped reads k d root name s on b plain room marks small v f verdict m h t on' ticket c)
-issue-keeps reads k d root name s on b plain room marks r ticket t on' headed law small v (given f x verdict i c e q w p l) =
+issue-keeps reads k d root name s on b plain room marks r ticket t on' headed small v (given f x verdict i c e q w p l) =
     let steps = d - x.node.depth in
     let T = issuedTicket k d f.0 x plain in
     let a = handed reads k d root name s on b plain room marks small v f verdict x i c steps in

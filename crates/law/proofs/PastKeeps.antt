@@ -7,7 +7,7 @@ use Rattle.layout.specs.Records.{encodeHead, encodeNode}
 use Rattle.tree.specs.Cover.{In}
 use Rattle.tree.proofs.Members.{in-cases}
 use Rattle.chain.specs.Reading.{Link}
-use Rattle.rules.specs.Kits.{Kit, Lawful}
+use Rattle.rules.specs.Kits.{Kit}
 use Rattle.rules.specs.Writes.{Write}
 use Rattle.rules.specs.Files.{entry, lastSlot, recordOf, relinked, recounted, issueWrite, newWrites, joinWrite, eraseWrite, redeemWrites}
 use Rattle.rules.specs.Calls.{Sound, Outcome, read_by, newLinks, Hit, Issuing, Redeeming, Issuing.declined, Issuing.cut, Issuing.given, Redeeming.spent, Redeeming.shut, Redeeming.strange, Redeeming.full, Redeeming.opened}
@@ -128,25 +128,25 @@ redeem-whole reads k d root name s on b ticket room marks r state t on' joined s
     subst Whole (sym z) (whole-stood (redeemWrites s front x back new) s (redeem-definite k d root name s on b v front x back new chain) w)
 
 -- ---- every past
-pub past-holds : (reads : ReadsBack) (redeems : RedeemKeeps) (k : Kit) (d : ℕ) (root name : List ℕ) (m : Mode) (s : Slots) (on : Bool) (b : Book) → Lawful k → d ≤ 16 →
+pub past-holds : (reads : ReadsBack) (redeems : RedeemKeeps) (k : Kit) (d : ℕ) (root name : List ℕ) (m : Mode) (s : Slots) (on : Bool) (b : Book) → d ≤ 16 →
     Past k d root name m s on b → Inv k d root name m s on b × Whole s
-past-holds reads redeems k d root name m s on b law small (made s₀ on₀ r t on' lr ln mk) = make-holds k d root name s₀ on₀ r t on' lr ln mk
-past-holds reads redeems k d root name m s on b law small (issued s₀ on₀ b₀ plain room marks r ticket t on' headed p i) =
-    let h = past-holds reads redeems k d root name running s₀ on₀ b₀ law small p in (
-      issue-keeps reads k d root name s₀ on₀ b₀ plain room marks r ticket t on' headed law small h.0 i,
+past-holds reads redeems k d root name m s on b small (made s₀ on₀ r t on' lr ln mk) = make-holds k d root name s₀ on₀ r t on' lr ln mk
+past-holds reads redeems k d root name m s on b small (issued s₀ on₀ b₀ plain room marks r ticket t on' headed p i) =
+    let h = past-holds reads redeems k d root name running s₀ on₀ b₀ small p in (
+      issue-keeps reads k d root name s₀ on₀ b₀ plain room marks r ticket t on' headed small h.0 i,
       issue-whole k d root name s₀ on₀ b₀ plain room marks r ticket t on' headed h.0 h.1 i,
     )
-past-holds reads redeems k d root name m s on b law small (redeemed s₀ on₀ b₀ ticket room marks r state t on' joined p i) =
-    let h = past-holds reads redeems k d root name running s₀ on₀ b₀ law small p in (
-      redeems k d root name s₀ on₀ b₀ ticket room marks r state t on' joined law small h.0 i,
+past-holds reads redeems k d root name m s on b small (redeemed s₀ on₀ b₀ ticket room marks r state t on' joined p i) =
+    let h = past-holds reads redeems k d root name running s₀ on₀ b₀ small p in (
+      redeems k d root name s₀ on₀ b₀ ticket room marks r state t on' joined small h.0 i,
       redeem-whole reads k d root name s₀ on₀ b₀ ticket room marks r state t on' joined small h.0 h.1 i,
     )
-past-holds reads redeems k d root name m s on b law small (closed s₀ on₀ b₀ p) =
-    let h = past-holds reads redeems k d root name running s₀ on₀ b₀ law small p in
+past-holds reads redeems k d root name m s on b small (closed s₀ on₀ b₀ p) =
+    let h = past-holds reads redeems k d root name running s₀ on₀ b₀ small p in
     (cooled k d root name running s₀ on₀ on₀ b₀ h.0, h.1)
-past-holds reads redeems k d root name m s on b law small (reopened s₀ on₀ b₀ marks r t on' p i) =
-    let h = past-holds reads redeems k d root name cold s₀ on₀ b₀ law small p in
+past-holds reads redeems k d root name m s on b small (reopened s₀ on₀ b₀ marks r t on' p i) =
+    let h = past-holds reads redeems k d root name cold s₀ on₀ b₀ small p in
     reopen-holds reads k d root name s₀ on₀ b₀ marks r t on' small h.1 h.0 i
 
 pub past-keeps : ReadsBack → RedeemKeeps → PastKeeps
-past-keeps reads redeems k d root name m s on b law small p = (past-holds reads redeems k d root name m s on b law small p).0
+past-keeps reads redeems k d root name m s on b small p = (past-holds reads redeems k d root name m s on b small p).0

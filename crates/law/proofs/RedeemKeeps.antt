@@ -242,19 +242,19 @@ whole k d root name s on b ticket r t on' joined front x back new a v p e o j q 
     (λ m. p.fresh (v.opened n m), v.once) (λ i m. elim m [ inl z ↦ inl z | inr z ↦ inr (v.opened i z) ]))
 
 pub redeem-keeps : (reads : ReadsBack) → RedeemKeeps
-redeem-keeps reads k d root name s on b ticket room marks r state t on' joined lawful small v (Redeeming.declined h q e u j) =
+redeem-keeps reads k d root name s on b ticket room marks r state t on' joined small v (Redeeming.declined h q e u j) =
     refused k d root name s on b ticket room r state t on' joined h v e u j
-redeem-keeps reads k d root name s on b ticket room marks r state t on' joined lawful small v (Redeeming.spent f q none e u j) =
+redeem-keeps reads k d root name s on b ticket room marks r state t on' joined small v (Redeeming.spent f q none e u j) =
     refused k d root name s on b ticket room r state t on' joined (placed Spent (number_in ticket)) v e u j
-redeem-keeps reads k d root name s on b ticket room marks r state t on' joined lawful small v (Redeeming.shut f front x back hit broken e u j) =
+redeem-keeps reads k d root name s on b ticket room marks r state t on' joined small v (Redeeming.shut f front x back hit broken e u j) =
     refused k d root name s on b ticket room r state t on' joined (placed SealBroken (number_in ticket)) v e u j
-redeem-keeps reads k d root name s on b ticket room marks r state t on' joined lawful small v (Redeeming.strange f front x back plain hit seals odd e u j) =
+redeem-keeps reads k d root name s on b ticket room marks r state t on' joined small v (Redeeming.strange f front x back plain hit seals odd e u j) =
     refused k d root name s on b ticket room r state t on' joined (placed OpenedNotARecord (number_in ticket)) v e u j
-redeem-keeps reads k d root name s on b ticket room marks r state t on' joined lawful small v (Redeeming.full f front x back plain hit seals good few e u j) =
+redeem-keeps reads k d root name s on b ticket room marks r state t on' joined small v (Redeeming.full f front x back plain hit seals good few e u j) =
     refused k d root name s on b ticket room r state t on' joined (placed NoFreeSlot (number_in ticket)) v e u j
-redeem-keeps reads k d root name s on b ticket room marks r state t on' joined lawful small v (Redeeming.cut f front x back plain fs m h hit seals ready c e o z j) =
+redeem-keeps reads k d root name s on b ticket room marks r state t on' joined small v (Redeeming.cut f front x back plain fs m h hit seals ready c e o z j) =
     cut_short k d root name s on b ticket r t on' joined front x back (newLinks k d x (number_in ticket) fs) m h v
     (spot reads k d root name s on b ticket room marks f front x back plain fs small v hit ready) c e o j
-redeem-keeps reads k d root name s on b ticket room marks r state t on' joined lawful small v (Redeeming.opened f front x back plain fs hit seals ready q o j e z) =
+redeem-keeps reads k d root name s on b ticket room marks r state t on' joined small v (Redeeming.opened f front x back plain fs hit seals ready q o j e z) =
     whole k d root name s on b ticket r t on' joined front x back (newLinks k d x (number_in ticket) fs) (length plain, d - x.node.depth) v
     (spot reads k d root name s on b ticket room marks f front x back plain fs small v hit ready) q o j e

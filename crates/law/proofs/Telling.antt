@@ -1,10 +1,9 @@
 -- Each call on a file that stands, not cut, is as its tale says.
-use Rattle.std.proofs.Common.{◌≡◌, ℕ, zero, ◌-◌, ◌^◌, ◌<◌, ◌≤◌, Bool, true, false, cond, ◌&&◌, ltb, leb, List, [], ◌∷◌, map, length, take, Ok, Err, Result, sym, refl, ap, ◌∙◌, subst, inl, inr, arith, length-take-le}
+use Rattle.std.proofs.Common.{◌≡◌, ℕ, ◌-◌, ◌^◌, ◌<◌, ◌≤◌, Bool, true, false, cond, ◌&&◌, ltb, leb, ◌≢◌, List, [], ◌∷◌, map, length, take, Ok, Err, Result, sym, refl, ap, ◌∙◌, subst, inl, inr, arith, length-take-le}
 use Rattle.std.proofs.lemmas.List.{length-map}
-use Rattle.std.proofs.lemmas.Bool.{ne_eqb}
 use Rattle.octets.specs.Buffers.{filled}
-use Rattle.refusal.specs.Numbers.{number_of}
-use Rattle.refusal.specs.declared.Refusal.TheVariants.{ShortBuffer, SlotCount, NotARecord, Exhausted, TicketLength, OtherName, NotIssued}
+use Rattle.refusal.specs.declared.Refusal.{Refusal}
+use Rattle.refusal.specs.declared.Refusal.TheVariants.{NoPower, ShortBuffer, SlotCount, NotARecord, Exhausted, TicketLength, OtherName, NotIssued}
 use Rattle.fault.specs.declared.Halt.{Halt}
 use Rattle.fault.specs.Faults.{plainly, placed}
 use Rattle.device.specs.Effects.{Slots}
@@ -24,7 +23,7 @@ use Rattle.rules.specs.Writes.{Write, CutShort}
 use Rattle.rules.specs.Files.{entry, issueWrite, redeemWrites, freeCount}
 use Rattle.rules.specs.Calls.{Sound, Outcome, read_by, countFits, sameBytes, issuable, issueVerdict, issuedTicket, redeemable, redeemVerdict, Hit, Seals, newLinks, Issuing, Redeeming}
 use Rattle.rules.specs.Books.{Book}
-use Rattle.rules.specs.Pasts.{running, cold, modeAfter}
+use Rattle.rules.specs.Pasts.{running, cold, isNoPower, modeAfter}
 use Rattle.law.specs.Law.{Uncut}
 use Rattle.law.proofs.Invariant.{headFor, Inv, ReadsBack}
 use Rattle.law.proofs.Frames.{length-stood}
@@ -32,14 +31,18 @@ use Rattle.law.proofs.Readings.{inv-read, link-is, key-is, issue-ok, MayRedeem, 
 use Rattle.law.proofs.Told.{Out, Barrier, issueLeft, issueRecord, issueFits, issueBar, IssueTold, redeemIssued, redeemNamed, redeemLong, redeemFits, redeemBar, SealedAs, RoomTold, PlainTold, SealTold, NodeTold, RedeemTold}
 
 -- ---- modes and lengths
+other-refusal : (w : Refusal) → w ≢ NoPower → isNoPower w ≡ false
+other-refusal NoPower f = absurd (f refl)
+other-refusal w f = refl
+
 -- a call that was not cut leaves the server running
 pub uncut-running : (r : Outcome) → Uncut r → modeAfter r ≡ running
 uncut-running (Ok a) u = refl
-uncut-running (Err h) u = ap (λ (c : Bool). cond c cold running) (ne_eqb (number_of h.refusal) 15 (λ e. u h refl e))
+uncut-running (Err h) u = ap (λ (c : Bool). cond c cold running) (other-refusal h.refusal (u h refl))
 
 -- a cut call is cut
 cut-is : (s t : Slots) (ws : List Write) (m : ℕ) (h : Halt) (r : Outcome) → CutShort s ws m h t → r ≡ Err h → Uncut r → ⊥
-cut-is s t ws m h r c e u = u h e (ap (λ (q : Halt). number_of q.refusal) c.halt)
+cut-is s t ws m h r c e u = u h e (ap (λ (q : Halt). q.refusal) c.halt)
 
 pub issue-length : (k : Kit) (d : ℕ) (s : Slots) (on : Bool) (plain : List ℕ) (room marks : ℕ) (r : Outcome) (ticket : List ℕ) (t : Slots) (on' headed : Bool) →
     Issuing k d s on plain room marks r ticket t on' headed → length t ≡ length s

@@ -1,11 +1,11 @@
 -- The worked examples.
-use Rattle.std.proofs.Common.{◌≡◌, ℕ, ◌+◌, ◌-◌, ◌^◌, ◌<◌, ◌≤◌, Bool, ◌⊎◌, List, [], ◌∷◌, length, Ok, Err, sym, refl, ap, ◌∙◌, subst, inl, inr, arith}
+use Rattle.std.proofs.Common.{◌≡◌, ℕ, ◌≤◌, Bool, List, [], ◌∷◌, length, Err, sym, refl, ap, ◌∙◌, subst, inl, inr, arith}
 use Rattle.refusal.specs.declared.Refusal.TheVariants.{NoFreeSlot}
 use Rattle.fault.specs.Faults.{placed}
 use Rattle.device.specs.Effects.{Slots}
 use Rattle.session.proofs.Trip.{least, most}
 use Rattle.tree.specs.declared.Node.{Node}
-use Rattle.tree.specs.Nodes.{treeLevels, nodeAt, Covers}
+use Rattle.tree.specs.Nodes.{treeLevels, nodeAt}
 use Rattle.tree.specs.Cover.{In, cover}
 use Rattle.rules.specs.Kits.{Kit, Lawful}
 use Rattle.rules.specs.Books.{Given, Book}
@@ -24,7 +24,7 @@ small = omega arith
 
 module _ (k : Kit) (root name : List ℕ) (s : Slots) (on : Bool) (b : Book) (lawful : Lawful k) (w : Narrow k root name s on b) where
   inv : Inv k treeLevels root name running s on b
-  inv = past-keeps reads-back (redeem-keeps reads-back) k treeLevels root name running s on b lawful small w.past
+  inv = past-keeps reads-back (redeem-keeps reads-back) k treeLevels root name running s on b small w.past
 
   cover-is : cover treeLevels b.spent ≡ cover treeLevels (0 ∷ [])
   cover-is = ap (cover treeLevels) w.spent

@@ -1,7 +1,8 @@
--- The law over pasts: the chain is the cover, a number opens once and its ticket opens as its own, and servers that agree answer alike.
-use Rattle.std.specs.Prelude.{◌≡◌, ℕ, ◌-◌, ◌^◌, ◌<◌, ◌≤◌, Bool, ◌↔◌, List, [], ◌∷◌, map, length, Ok, Err, ◌≢◌, slice_index_or}
+-- The law over pasts: a running server has its power on and zeros in its free slots, the chain is the cover, a number opens once
+-- and its ticket opens as its own, and servers that agree answer alike.
+use Rattle.std.specs.Prelude.{◌≡◌, ℕ, ◌-◌, ◌^◌, ◌<◌, ◌≤◌, Bool, true, ◌↔◌, List, [], ◌∷◌, map, length, Ok, Err, ◌≢◌, slice_index_or}
 use Rattle.octets.specs.Buffers.{filled}
-use Rattle.refusal.specs.Numbers.{number_of}
+use Rattle.refusal.specs.declared.Refusal.TheVariants.{NoPower}
 use Rattle.fault.specs.declared.Halt.{Halt}
 use Rattle.device.specs.Effects.{Slots, blank}
 use Rattle.session.specs.Limits.{mostLength}
@@ -17,6 +18,11 @@ use Rattle.rules.specs.Tickets.{ticketOf}
 use Rattle.rules.specs.Calls.{Outcome, Issuing, Redeeming}
 use Rattle.rules.specs.Books.{Given, Book}
 use Rattle.rules.specs.Pasts.{Mode, running, Past}
+
+-- ---- free slots
+-- the slots that are neither the head's nor on the chain are zero
+abbrev pub RestBlank : Slots → List Link → Type 0
+RestBlank s xs = (i : ℕ) → 0 < i → i < length s → (In i (slots_of xs) → ⊥) → slice_index_or s i [] ≡ blank
 
 -- ---- the chain is the cover
 pub record CoverLaw (k : Kit) (d : ℕ) (root name : List ℕ) (s : Slots) (b : Book) : Type 0 where
@@ -36,7 +42,7 @@ pub record CoverLaw (k : Kit) (d : ℕ) (root name : List ℕ) (s : Slots) (b : 
 -- ---- once, and its own
 -- the call was not cut, and found the power on
 abbrev pub Uncut : Outcome → Type 0
-Uncut r = (h : Halt) → r ≡ Err h → number_of h.refusal ≢ 15
+Uncut r = (h : Halt) → r ≡ Err h → h.refusal ≢ NoPower
 
 pub record OnceLaw (k : Kit) (d : ℕ) (root name : List ℕ) (m : Mode) (s : Slots) (on : Bool) (b : Book) : Type 0 where
   -- of the redemptions that gave a state no two were of one number
@@ -81,10 +87,6 @@ pub record Agree (d : ℕ) (k : Kit) (root : List ℕ) (s : Slots) (b : Book) (k
   pub spent : (n : ℕ) → In n b.spent ↔ In n b'.spent
   pub values : (x : Node) → IsNode d x → Free d b.spent x → value_of k.expansion d root x ≡ value_of k'.expansion d root' x
 
--- the slots that are neither the head's nor on the chain are zero
-abbrev pub RestBlank : Slots → List Link → Type 0
-RestBlank s xs = (i : ℕ) → 0 < i → i < length s → (In i (slots_of xs) → ⊥) → slice_index_or s i [] ≡ blank
-
 pub record AlikeLaw (k : Kit) (d : ℕ) (s : Slots) (on : Bool) (k' : Kit) (s' : Slots) (on' : Bool) : Type 0 where
   pub head : Head
   pub links : List Link
@@ -99,7 +101,12 @@ pub record AlikeLaw (k : Kit) (d : ℕ) (s : Slots) (on : Bool) (k' : Kit) (s' :
 
 -- ---- the whole, of the trees in use
 pub record Law : Type 0 where
-  pub cover : (k : Kit) (root name : List ℕ) (m : Mode) (s : Slots) (on : Bool) (b : Book) → Lawful k → Past k treeLevels root name m s on b →
+  -- a running server's power is on,
+  pub power_is_on : (k : Kit) (root name : List ℕ) (s : Slots) (on : Bool) (b : Book) → Past k treeLevels root name running s on b → on ≡ true
+  -- and its free slots are zero
+  pub free_slots_are_zero : (k : Kit) (root name : List ℕ) (s : Slots) (on : Bool) (b : Book) → Past k treeLevels root name running s on b →
+      (h : Head) (xs : List Link) → fileOf treeLevels k.generator k.sealer s ≡ sound h xs → RestBlank s xs
+  pub cover : (k : Kit) (root name : List ℕ) (m : Mode) (s : Slots) (on : Bool) (b : Book) → Past k treeLevels root name m s on b →
       CoverLaw k treeLevels root name s b
   pub once : (k : Kit) (root name : List ℕ) (m : Mode) (s : Slots) (on : Bool) (b : Book) → Lawful k → Past k treeLevels root name m s on b →
       OnceLaw k treeLevels root name m s on b

@@ -1,8 +1,11 @@
-//! The rules of the calls, and the law over the pasts of a tree.
+//! The law over the pasts of a tree, and the worked examples: two functions that only stand for their contracts.
+#![tactic(auto)]
+
 ghost use Rattle.law.specs.Examples.{AllExamples};
 ghost use Rattle.law.specs.Law.{Law};
 
-/// The law over pasts: the chain is the cover, a number opens once and as its own, and servers that agree answer alike.
+/// The law over pasts: a running server has its power on and zeros in its free slots, the chain is the cover, a number opens
+/// once and as its own, and servers that agree answer alike.
 pub fn law_stands() -> u8
     ensures { Law }
 {

@@ -1,6 +1,7 @@
 -- The pasts of a tree: a make whose head write stands, and then any calls, refused and cut ones too, each on what its predecessor left.
-use Rattle.std.specs.Prelude.{◌≡◌, ℕ, Bool, true, false, cond, List, length, Ok, Err, Result, ◌==◌}
-use Rattle.refusal.specs.Numbers.{number_of}
+use Rattle.std.specs.Prelude.{◌≡◌, ℕ, Bool, true, false, cond, List, length, Ok, Err, Result}
+use Rattle.refusal.specs.declared.Refusal.{Refusal}
+use Rattle.refusal.specs.declared.Refusal.TheVariants.{NoPower}
 use Rattle.fault.specs.declared.Halt.{Halt}
 use Rattle.device.specs.Effects.{Slots}
 use Rattle.rules.specs.Kits.{Kit, valueLength, nameLength}
@@ -12,10 +13,15 @@ pub data Mode : Type 0 where
   running : Mode
   cold : Mode
 
--- issue and redeem hand back a running server, or a cold one after want of power
-abbrev pub wantsPower : Halt → Bool
-wantsPower h = number_of h.refusal == 15
+-- whether a call halted for want of power
+abbrev pub isNoPower : Refusal → Bool
+isNoPower NoPower = true
+isNoPower w = false
 
+abbrev pub wantsPower : Halt → Bool
+wantsPower h = isNoPower h.refusal
+
+-- issue and redeem hand back a running server, or a cold one after want of power
 abbrev pub modeAfter : Outcome → Mode
 modeAfter (Ok a) = running
 modeAfter (Err h) = cond (wantsPower h) cold running
