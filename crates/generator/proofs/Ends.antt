@@ -1,24 +1,23 @@
 -- Where a descent ends.
-use Rattle.std.proofs.Common.{◌≡◌, ℕ, ◌+◌, ◌-◌, ◌*◌, ◌≤◌, List, ◌++◌, length, drop, replicate, sym, ap, ◌∙◌, arith}
+use Rattle.std.proofs.Common.{◌≡◌, ℕ, ◌+◌, ◌-◌, ◌*◌, ◌≤◌, List, ◌++◌, length, drop, replicate, ap, ◌∙◌, arith}
 use Rattle.octets.specs.Buffers.{zeros, filled}
 use Rattle.tree.specs.declared.Node.{Node}
 use Rattle.tree.specs.Nodes.{mostLevels, IsNode, Covers}
 use Rattle.tree.specs.Puncture.{siblingsOn}
-use Rattle.tree.specs.Values.{Expansion, way, follow, keyFrom, valueFrom, siblingValues}
+use Rattle.tree.specs.Values.{Expansion, way, follow, keyFrom, valueFrom, siblingValues, besides}
 use Rattle.std.specs.List.{flat_map}
 use Rattle.tree.proofs.Descent.{length-way, key-from}
-use Rattle.tree.proofs.Turns.{besides, besides-are}
+use Rattle.tree.proofs.Turns.{besides-are}
 use Rattle.generator.specs.Descent.{Descended}
 use Rattle.generator.proofs.Rows.{laid-clean}
 
 pub descended : (g : Expansion) (d : ℕ) (x : Node) (n : ℕ) (before : List ℕ) (calls : ℕ) (after : List ℕ) → (d ≤ mostLevels) × IsNode d x × Covers d x n →
-    calls ≡ d - x.depth → after ≡ follow g before (way calls 0 n) → Descended g d x n before calls after
-descended g d x n before calls after i q r =
+    (levels : ℕ) → levels ≡ d - x.depth → after ≡ follow g before (way levels 0 n) → calls ≡ length (way levels 0 n) → Descended g d x n before calls after
+descended g d x n before calls after i levels q r c =
     let k : after ≡ keyFrom g d x before n = r ∙ ap (λ (j : ℕ). follow g before (way j 0 n)) q in
     record {
       way = record { few = i.0; isNode = i.1; covers = i.2 };
-      steps = q ∙ sym (length-way (d - x.depth) 0 n);
-      count = q;
+      counted = record { turns = c ∙ ap (λ (j : ℕ). length (way j 0 n)) q; levels = length-way (d - x.depth) 0 n };
       key = k;
       ofTree = λ v s. k ∙ ap (λ (u : List ℕ). keyFrom g d x u n) s ∙ (key-from g d v x n i.1 i.2).same;
     }

@@ -4,8 +4,7 @@ use lib.ListN.{length-replicate}
 use lib.Seq.{paste}
 use Rattle.std.proofs.lemmas.List.{take-append-le, take-take, take_all, drop_at, drop-drop, drop-replicate, length-take-le}
 use Rattle.std.proofs.lemmas.List.Edits.{take-paste, drop-paste, paste_all}
-use Rattle.tree.specs.Values.{Expansion, bit, step_of, way, follow}
-use Rattle.tree.proofs.Turns.{flanked, besides}
+use Rattle.tree.specs.Values.{Expansion, bit, step_of, way, follow, flanked, besides}
 use Rattle.tree.proofs.Descent.{key_step}
 
 -- what the loop has laid down and has yet to lay down

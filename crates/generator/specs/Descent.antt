@@ -1,16 +1,15 @@
 -- What a descent from a node to a number answers, and what it leaves in the lent buffers.
-use Rattle.std.specs.Prelude.{◌≡◌, ℕ, ◌-◌, ◌*◌, List, length, Some, None, Option}
+use Rattle.std.specs.Prelude.{◌≡◌, ℕ, ◌*◌, List, Some, None, Option}
 use Rattle.octets.specs.Buffers.{zeros, filled}
 use Rattle.tree.specs.declared.Node.{Node}
 use Rattle.tree.specs.Nodes.{mostLevels, Above}
-use Rattle.tree.specs.Values.{Expansion, value_of, key_of, wayFrom, keyFrom, siblingValues}
+use Rattle.tree.specs.Values.{Expansion, value_of, key_of, keyFrom, Counted, siblingValues}
 use Rattle.generator.specs.Bytes.{valueLength}
 
--- there is a way from x down to n; the calls made are its steps; the value that was x's has become n's key
+-- there is a way from x down to n; the calls made are counted; the value that was x's has become n's key
 pub record Descended (g : Expansion) (d : ℕ) (x : Node) (n : ℕ) (before : List ℕ) (calls : ℕ) (after : List ℕ) : Type 0 where
   pub way : Above d x n
-  pub steps : calls ≡ length (wayFrom d x n)
-  pub count : calls ≡ d - x.depth
+  pub counted : Counted d x n calls
   pub key : after ≡ keyFrom g d x before n
   -- in a tree with v at the root, where the value before was x's in that tree, it is now the key of n in that tree
   pub ofTree : (v : List ℕ) → before ≡ value_of g d v x → after ≡ key_of g d v n

@@ -1,12 +1,13 @@
 //! Generators of node values, and going down the tree by any of them.
+#![tactic(auto)]
+
 ghost use Rattle.std.specs.Prelude.{◌≡◌, ℕ, ◌+◌, ◌*◌, ◌<◌, ◌≤◌, List, ◌++◌, length, drop};
 ghost use Rattle.std.proofs.Math.Seq.{paste};
 ghost use Rattle.octets.specs.Buffers.{zeros};
 ghost use Rattle.tree.specs.Nodes.{mostLevels};
-ghost use Rattle.tree.specs.Values.{Expansion, step_of, way, follow};
+ghost use Rattle.tree.specs.Values.{Expansion, step_of, way, follow, besides};
 ghost use Rattle.generator.specs.Bytes.{Bytes, valueLength};
 ghost use Rattle.generator.specs.Descent.{Descent, Kept};
-ghost use Rattle.tree.proofs.Turns.{besides};
 
 use octets::clear;
 use tree::Node;
@@ -57,45 +58,53 @@ pub fn descend<G: Generator>(
         clear(right);
         return None;
     }
-    let steps = u32::from(height - node.depth);
-    go_down(g, steps, n, value, left, right);
+    let levels = u32::from(height - node.depth);
+    let calls = go_down(g, levels, n, value, left, right);
     clear(left);
     clear(right);
-    Some(steps)
+    Some(calls)
 }
 
-// Takes as many turns as `steps` says, by the low bits of `n`, the highest first.
+// Takes as many turns as `levels` says, by the low bits of `n`, the highest first, and answers the generator calls made.
 fn go_down<G: Generator>(
     g: &G,
-    steps: u32,
+    levels: u32,
     n: u32,
     value: &mut [u8; 32],
     left: &mut [u8; 32],
     right: &mut [u8; 32],
-)
-    requires { steps ≤ mostLevels }
-    ensures { value.new ≡ follow (G.Generator.expansion g.now) value.old (way steps 0 n) }
+) -> u32
+    requires { levels ≤ mostLevels }
+    ensures key { value.new ≡ follow (G.Generator.expansion g.now) value.old (way levels 0 n) }
+    ensures calls { result ≡ length (way levels 0 n) }
 {
-    let mut h = steps;
+    let mut calls = 0;
+    let mut h = levels;
     while h > 0 {
         h -= 1;
-        turn(g, (n >> h) % 2 == 1, value, left, right);
+        turn(g, (n >> h) % 2 == 1, value, left, right, &mut calls);
     }
+    calls
 }
 
-// Puts a child's value in the place of its parent's, and the children's values into `left` and `right`.
+// Puts a child's value in the place of its parent's, and the children's values into `left` and `right`. The generator is
+// called here and nowhere else, and each call is counted.
 fn turn<G: Generator>(
     g: &G,
     to_right: bool,
     value: &mut [u8; 32],
     left: &mut [u8; 32],
     right: &mut [u8; 32],
+    calls: &mut u32,
 )
+    requires { calls.old < mostLevels }
     ensures child { value.new ≡ step_of (G.Generator.expansion g.now) to_right value.old }
     ensures one { left.new ≡ (G.Generator.expansion g.now).left value.old }
     ensures two { right.new ≡ (G.Generator.expansion g.now).right value.old }
+    ensures counted { calls.new ≡ calls.old + 1 }
 {
     g.expand(value, left, right);
+    *calls += 1;
     if to_right {
         value.copy_from_slice(right);
     } else {
@@ -127,33 +136,35 @@ pub fn descend_keeping<G: Generator>(
         clear(right);
         return None;
     }
-    let steps = height - node.depth;
-    keep_siblings(g, usize::from(steps), n, value, left, right, row);
+    let levels = usize::from(height - node.depth);
+    let calls = keep_siblings(g, levels, n, value, left, right, row);
     clear(left);
     clear(right);
-    Some(u32::from(steps))
+    Some(calls)
 }
 
-// Goes down and lays the siblings' values into the row: those on the left of the way from the front, those on its right
-// from the back.
+// Goes down as `go_down` does and lays the siblings' values into the row: those on the left of the way from the front,
+// those on its right from the back.
 fn keep_siblings<G: Generator>(
     g: &G,
-    steps: usize,
+    levels: usize,
     n: u32,
     value: &mut [u8; 32],
     left: &mut [u8; 32],
     right: &mut [u8; 32],
     row: &mut [u8; 768],
-)
-    requires { steps ≤ mostLevels }
-    ensures key { value.new ≡ follow (G.Generator.expansion g.now) value.old (way steps 0 n) }
-    ensures row { row.new ≡ besides (G.Generator.expansion g.now) steps n value.old ++ drop (valueLength * steps) row.old }
+) -> u32
+    requires { levels ≤ mostLevels }
+    ensures key { value.new ≡ follow (G.Generator.expansion g.now) value.old (way levels 0 n) }
+    ensures calls { result ≡ length (way levels 0 n) }
+    ensures row { row.new ≡ besides (G.Generator.expansion g.now) levels n value.old ++ drop (valueLength * levels) row.old }
 {
+    let mut calls = 0;
     let mut lo = 0;
-    let mut hi = steps;
+    let mut hi = levels;
     while lo < hi {
         let to_right = (n >> (hi - lo - 1)) % 2 == 1;
-        turn(g, to_right, value, left, right);
+        turn(g, to_right, value, left, right, &mut calls);
         if to_right {
             put_value(row, lo, left);
             lo += 1;
@@ -162,6 +173,7 @@ fn keep_siblings<G: Generator>(
             put_value(row, hi, right);
         }
     }
+    calls
 }
 
 // Puts a value into place `k` of the row.

@@ -23,7 +23,7 @@ use Rattle.rules.specs.Kits.{Kit}
 use Rattle.rules.specs.Writes.{CutShort, stood}
 use Rattle.rules.specs.Files.{issueWrite}
 use Rattle.rules.specs.Tickets.{ticketMost}
-use Rattle.rules.specs.Calls.{Sound, Outcome, countFits, readAs, read_by, issuable, issueVerdict, issuedTicket, Untouched, Issuing, Issuing.declined, Issuing.cut, Issuing.given, kept}
+use Rattle.rules.specs.Calls.{Sound, Outcome, Finished, countFits, readAs, read_by, issuable, issueVerdict, issuedTicket, Untouched, Issuing, Issuing.declined, Issuing.cut, Issuing.given, kept}
 use Rattle.issuing.specs.Ends.{issueEntry, Issuable, link_of, IssueEnds, ended, gave}
 use Rattle.issuing.proofs.Surveys.{seen, err-as, Told, ok-as, reading-is, link-value}
 
@@ -159,8 +159,8 @@ module _ (k : Kit) (s : Slots) (on : Bool) (plain : List ℕ) (room marks : ℕ)
         ends r ticket t on' (gave q b c o) = (
           true,
           given (v.head, told.links) spot.link verdict-ok in-links spot.covers
-              (q ∙ ap (λ x. Ok (length (issuedTicket k treeLevels v.head x plain), treeLevels - x.node.depth)) link-is)
-              (ap (λ x. kept x room ticket) q ∙ b ∙ ap (λ x. issuedTicket k treeLevels v.head x plain ++ zeros (room - length (issuedTicket k treeLevels v.head x plain))) link-is)
+              (subst (λ x. Finished treeLevels x.node v.head.issued (length (issuedTicket k treeLevels v.head x plain)) r) link-is q)
+              (ap (λ x. kept x room ticket) q.is ∙ b ∙ ap (λ x. issuedTicket k treeLevels v.head x plain ++ zeros (room - length (issuedTicket k treeLevels v.head x plain))) link-is)
               c o refl,
         )
 

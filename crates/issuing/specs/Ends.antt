@@ -1,5 +1,5 @@
 -- What is given to the last steps of an issue, and how they end.
-use Rattle.std.specs.Prelude.{◌≡◌, ℕ, ◌-◌, ◌^◌, ◌<◌, ◌≤◌, Bool, true, false, cond, ◌&&◌, List, [], ◌∷◌, length, Ok, Err, Result, nat_le, slice_index_or}
+use Rattle.std.specs.Prelude.{◌≡◌, ℕ, ◌^◌, ◌<◌, ◌≤◌, Bool, true, false, cond, ◌&&◌, List, [], ◌∷◌, length, Ok, Err, Result, nat_le, slice_index_or}
 use Rattle.refusal.specs.declared.Refusal.TheVariants.{ShortBuffer, SlotCount, NotARecord}
 use Rattle.fault.specs.Faults.{plainly}
 use Rattle.marks.specs.Rows.{roomOf}
@@ -17,7 +17,7 @@ use Rattle.rules.specs.Kits.{Kit}
 use Rattle.rules.specs.Tickets.{ticketMost}
 use Rattle.rules.specs.Writes.{stood, CutShort}
 use Rattle.rules.specs.Files.{issueWrite}
-use Rattle.rules.specs.Calls.{Outcome, issuedTicket, countFits}
+use Rattle.rules.specs.Calls.{Outcome, Finished, issuedTicket, countFits}
 
 -- what stops an issue before it reads
 abbrev pub issueEntry : ℕ → Slots → List ℕ → ℕ → ℕ → Result (Unit {0}) Halt
@@ -42,5 +42,5 @@ link_of s f = record { slot = f.slot; node = f.node; value = value_of (slice_ind
 -- the head's write is cut; or it is done and the ticket is there
 pub data IssueEnds (k : Kit) (s : Slots) (h : Head) (f : Found) (plain : List ℕ) (room : ℕ) (r : Outcome) (ticket : List ℕ) (t : Slots) (on' : Bool) : Type 0 where
   ended : (m : ℕ) (e : Halt) → CutShort s (issueWrite s h ∷ []) m e t → r ≡ Err e → on' ≡ false → IssueEnds k s h f plain room r ticket t on'
-  gave : r ≡ Ok (length (issuedTicket k treeLevels h (link_of s f) plain), treeLevels - f.node.depth) → ticket ≡ filled (issuedTicket k treeLevels h (link_of s f) plain) room →
+  gave : Finished treeLevels f.node h.issued (length (issuedTicket k treeLevels h (link_of s f) plain)) r → ticket ≡ filled (issuedTicket k treeLevels h (link_of s f) plain) room →
       t ≡ stood s (issueWrite s h ∷ []) → on' ≡ true → IssueEnds k s h f plain room r ticket t on'

@@ -23,6 +23,7 @@ use Rattle.chain.specs.Reading.{Link, fileOf, sound}
 use Rattle.rules.specs.Kits.{Kit, Lawful, valueLength, headingLength}
 use Rattle.rules.specs.Tickets.{headingOf, nameIn, number_in, headingIn, sealedIn, ticketLeast, ticketLongest}
 use Rattle.rules.specs.Files.{entry, freeCount}
+use Rattle.rules.proofs.Counting.{by_levels}
 use Rattle.rules.specs.Calls.{Sound, Outcome, countFits, readAs, read_by, sameBytes, redeemable, redeemVerdict, Hit, Seals, Redeeming, declined, spent, shut, strange, full, cut, opened}
 use Rattle.rules.specs.Books.{Given, Book}
 use Rattle.rules.specs.Pasts.{Mode, running}
@@ -206,7 +207,7 @@ module _ (reads : ReadsBack) (at_least_lem : AtLeast) (at_most : AtMost) (k : Ki
       let i = hit-in room marks lr lm f front y back h in
       let p : plain ≡ g.state = plain-is y i h.covers plain se in
       let n : y.node ≡ x = link-is y i h.covers in (
-        e ∙ ap₂ (λ (l : List ℕ) (z : Node). Ok (length l, d - z.depth)) p n,
+        by_levels e ∙ ap₂ (λ (l : List ℕ) (z : Node). Ok (length l, d - z.depth)) p n,
         st ∙ ap (λ (l : List ℕ). filled l room) p,
       )
 

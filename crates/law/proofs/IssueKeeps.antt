@@ -172,10 +172,10 @@ issue-keeps reads k d root name s on b plain room marks r ticket t on' headed sm
     subst₂ (λ (r : Outcome) (headed : Bool). Inv k d root name (modeAfter r) t on' (fed b (issue plain r ticket headed))) (sym e) (sym q)
     (stopped reads k d root name s on b plain room marks small v f verdict m h t on' ticket c)
 issue-keeps reads k d root name s on b plain room marks r ticket t on' headed small v (given f x verdict i c e q w p l) =
-    let steps = d - x.node.depth in
+    let steps = e.calls in
     let T = issuedTicket k d f.0 x plain in
     let a = handed reads k d root name s on b plain room marks small v f verdict x i c steps in
     let t-is = w ∙ wrote reads k d root name s on b plain room marks small v f verdict in
-    subst₂ (λ (r : Outcome) (t : Slots). Inv k d root name (modeAfter r) t on' (fed b (issue plain r ticket headed))) (sym e) (sym t-is)
+    subst₂ (λ (r : Outcome) (t : Slots). Inv k d root name (modeAfter r) t on' (fed b (issue plain r ticket headed))) (sym e.is) (sym t-is)
     (subst₃ (λ (o : Bool) (buffer : List ℕ) (headed : Bool). Inv k d root name running (after reads k d root name s on b plain room marks small v f verdict) o (fed b (issue plain (Ok (length T, steps)) buffer headed)))
     (sym p) (sym q) (sym l) a)

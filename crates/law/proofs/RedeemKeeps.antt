@@ -256,5 +256,5 @@ redeem-keeps reads k d root name s on b ticket room marks r state t on' joined s
     cut_short k d root name s on b ticket r t on' joined front x back (newLinks k d x (number_in ticket) fs) m h v
     (spot reads k d root name s on b ticket room marks f front x back plain fs small v hit ready) c e o j
 redeem-keeps reads k d root name s on b ticket room marks r state t on' joined small v (Redeeming.opened f front x back plain fs hit seals ready q o j e z) =
-    whole k d root name s on b ticket r t on' joined front x back (newLinks k d x (number_in ticket) fs) (length plain, d - x.node.depth) v
-    (spot reads k d root name s on b ticket room marks f front x back plain fs small v hit ready) q o j e
+    whole k d root name s on b ticket r t on' joined front x back (newLinks k d x (number_in ticket) fs) (length plain, e.calls) v
+    (spot reads k d root name s on b ticket room marks f front x back plain fs small v hit ready) q o j e.is

@@ -21,7 +21,8 @@ use Rattle.rules.specs.Kits.{Kit, Lawful, valueLength, headingLength}
 use Rattle.rules.specs.Tickets.{ticketOf, nameIn, number_in, headingIn, sealedIn, ticketLeast, ticketLongest, ticketMost}
 use Rattle.rules.specs.Writes.{Write, CutShort}
 use Rattle.rules.specs.Files.{entry, issueWrite, redeemWrites, freeCount}
-use Rattle.rules.specs.Calls.{Sound, Outcome, read_by, countFits, sameBytes, issuable, issueVerdict, issuedTicket, redeemable, redeemVerdict, Hit, Seals, newLinks, Issuing, Redeeming}
+use Rattle.rules.proofs.Counting.{by_levels}
+use Rattle.rules.specs.Calls.{Sound, Outcome, Finished, read_by, countFits, sameBytes, issuable, issueVerdict, issuedTicket, redeemable, redeemVerdict, Hit, Seals, newLinks, Issuing, Redeeming}
 use Rattle.rules.specs.Books.{Book}
 use Rattle.rules.specs.Pasts.{running, cold, isNoPower, modeAfter}
 use Rattle.law.specs.Law.{Uncut}
@@ -142,7 +143,7 @@ module _ (reads : ReadsBack) (k : Kit) (d : ℕ) (root name : List ℕ) (s : Slo
 
   module _ (plain : List ℕ) (room marks : ℕ) where
     given-told : (f : Sound) (x : Link) (r : Outcome) (ticket : List ℕ) (headed : Bool) → issueVerdict k d s on plain room marks ≡ Ok f → In x f.1 → Covers d x.node f.0.issued →
-        r ≡ Ok (length (issuedTicket k d f.0 x plain), d - x.node.depth) → ticket ≡ filled (issuedTicket k d f.0 x plain) room → headed ≡ true →
+        Finished d x.node f.0.issued (length (issuedTicket k d f.0 x plain)) r → ticket ≡ filled (issuedTicket k d f.0 x plain) room → headed ≡ true →
         IssueTale k d root name s b plain room marks r ticket headed
     given-told f x r ticket headed verdict i c e q l =
         let own = ticketOf k name b.issued (key_of k.expansion d root b.issued) plain in
@@ -153,7 +154,7 @@ module _ (reads : ReadsBack) (k : Kit) (d : ℕ) (root name : List ℕ) (s : Slo
         ap (λ (p : Sound). issuedTicket k d p.0 x plain) may.file
         ∙ ap (λ (z : List ℕ). ticketOf k name b.issued z plain) (key-is k d root b.spent v.links v.covers x b.issued j n) in
         let o : Out r ticket headed (Ok (length own, d - x.node.depth)) (filled own room) true = record {
-          outcome = e ∙ ap (λ (z : List ℕ). Ok (length z, d - x.node.depth)) w;
+          outcome = by_levels e ∙ ap (λ (z : List ℕ). Ok (length z, d - x.node.depth)) w;
           buffer = q ∙ ap (λ (z : List ℕ). filled z room) w;
           counts = l;
         } in
@@ -227,4 +228,4 @@ module _ (reads : ReadsBack) (k : Kit) (d : ℕ) (root name : List ℕ) (s : Slo
         absurd (cut-is s t (redeemWrites s front x back (newLinks k d x (number_in ticket) fs)) m h r c e u)
     redeem-told r state t on' joined u (Redeeming.opened f front x back plain fs hit p ready z o q e w) =
         through f front x back hit r state joined (SealTold.unsealed plain (to-sealed f front x back hit plain p)
-        (PlainTold.proper ready.record' (RoomTold.opened (subst (λ (c : ℕ). d - x.node.depth ≤ c) (free-is f front x back hit) ready.room) (record { outcome = e; buffer = w; counts = q }))))
+        (PlainTold.proper ready.record' (RoomTold.opened (subst (λ (c : ℕ). d - x.node.depth ≤ c) (free-is f front x back hit) ready.room) (record { outcome = by_levels e; buffer = w; counts = q }))))

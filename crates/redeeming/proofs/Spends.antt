@@ -11,7 +11,7 @@ use Rattle.session.specs.Records.{isRecord}
 use Rattle.sealer.specs.Outcomes.{PlainOf}
 use Rattle.tree.specs.Nodes.{mostLevels, Covers}
 use Rattle.tree.specs.Cover.{In}
-use Rattle.tree.specs.Values.{Expansion, keyFrom}
+use Rattle.tree.specs.Values.{Expansion, keyFrom, Counted}
 use Rattle.tree.proofs.Members.{in_right}
 use Rattle.marks.specs.Rows.{roomOf}
 use Rattle.chain.specs.declared.Found.{Found}
@@ -37,9 +37,6 @@ err-same e = cc
 
 ok_same : {A : Type 0} {x y : A} → ◌≡◌ {A = Result A Halt} (Ok x) (Ok y) → x ≡ y
 ok_same e = cc
-
-pair_same : {a b c d : ℕ} → a ≡ b → c ≡ d → ◌≡◌ {A = Outcome} (Ok (a, c)) (Ok (b, d))
-pair_same e f = cc
 
 still : {s : Slots} {on : Bool} {room : ℕ} → Untouched s on room (zeros room) s on
 still = record { slots = refl; power = refl; zero = refl }
@@ -68,8 +65,11 @@ module _ {k : Kit} {d : ℕ} {s : Slots} {on : Bool} {ticket : List ℕ} {room c
     key-is : key ≡ keyFrom k.expansion d x.node x.value (number_in ticket)
     key-is = w.keyed ∙ ap (keyFrom k.expansion d x.node x.value) en
 
+    counted : Counted d x.node n calls
+    counted = subst (Counted d x.node n) (sym (ok_same w.is)) w.counted
+
     calls_are : calls ≡ d - x.node.depth
-    calls_are = ok_same w.calls
+    calls_are = counted.turns ∙ counted.levels
 
     seals : (plain : List ℕ) → PlainOf (k.sealing key (headingIn ticket)) (sealedIn ticket) plain → Seals k d ticket x plain
     seals plain p = record { short = p.short; sealing = sym (ap (λ (u : List ℕ). k.sealing u (headingIn ticket) plain) key-is) ∙ p.seals }
@@ -129,7 +129,7 @@ module _ {k : Kit} {d : ℕ} {s : Slots} {on : Bool} {ticket : List ℕ} {room c
         let p = subst (λ (j : ℕ). Puncturing k d s f front x back j (Ok tt) u on') en p' in
         elim p.ran [
           | through e' a o ↦
-              (true, opened f front x back plain p.taken z.hit (seals plain q) (ready plain t le p) a o refl (pair_same (ok_same e) calls_are) b)
+              (true, opened f front x back plain p.taken z.hit (seals plain q) (ready plain t le p) a o refl (record { calls = calls; counted = subst (λ (j : ℕ). Counted d x.node j calls) en counted; is = ap (λ (j : ℕ). Ok (j, calls)) (ok_same e) }) b)
           | failed m h' e' c o ↦ absurd (err-ok _ _ (sym e'))
         ]
 
@@ -223,7 +223,7 @@ module _ (k : Kit) (d : ℕ) (s : Slots) (on : Bool) (ticket : List ℕ) (room m
           )
 
 pub underived : {e : Expansion} {d n : ℕ} {x : Link} {h : Halt} {key row : List ℕ} → Derived e d n x (Err h) key row → ⊥
-underived w = err-ok _ _ w.calls
+underived w = err-ok _ _ w.is
 
 -- the same with as many bytes of marks under another name
 pub marks-as : {k : Kit} {d : ℕ} {s : Slots} {on : Bool} {ticket : List ℕ} {room m m' : ℕ} {r : Outcome} {state : List ℕ} {t : Slots} {on' : Bool} → m ≡ m' →

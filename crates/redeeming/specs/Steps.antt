@@ -1,5 +1,5 @@
 -- The steps of a redemption, each by what it answers.
-use Rattle.std.specs.Prelude.{◌≡◌, ℕ, ◌+◌, ◌-◌, ◌*◌, ◌<◌, ◌≤◌, Bool, true, false, ◌&&◌, List, length, Ok, Err, Result, nat_le}
+use Rattle.std.specs.Prelude.{◌≡◌, ℕ, ◌+◌, ◌*◌, ◌<◌, ◌≤◌, Bool, true, false, ◌&&◌, List, length, Ok, Err, Result, nat_le}
 use Rattle.octets.specs.Buffers.{zeros, filled}
 use Rattle.refusal.specs.declared.Refusal.TheVariants.{ShortBuffer, SlotCount, SealBroken, OpenedNotARecord}
 use Rattle.device.specs.Effects.{Slots}
@@ -9,7 +9,7 @@ use Rattle.session.specs.Limits.{leastLength, mostLength}
 use Rattle.session.specs.Records.{isRecord}
 use Rattle.sealer.specs.Outcomes.{PlainOf, NoPlain}
 use Rattle.tree.specs.Nodes.{mostLevels, Above}
-use Rattle.tree.specs.Values.{Expansion, keyFrom, siblingValues}
+use Rattle.tree.specs.Values.{Expansion, keyFrom, Counted, siblingValues}
 use Rattle.marks.specs.Rows.{roomOf}
 use Rattle.chain.specs.declared.Found.{Found}
 use Rattle.chain.specs.declared.Survey.{Survey}
@@ -62,9 +62,11 @@ pub record Met (d : ℕ) (s : Slots) (on : Bool) (found : Found) (n : ℕ) (x : 
   pub power : on ≡ true
   pub above : Above d x.node n
 
--- x's value has its length, n's key follows from it, and the siblings' values are kept in a row
+-- x's value has its length, n's key follows from it by the generator calls counted, and the siblings' values are kept in a row
 pub record Derived (e : Expansion) (d n : ℕ) (x : Link) (r : Result ℕ Halt) (key row : List ℕ) : Type 0 where
-  pub calls : r ≡ Ok (d - x.node.depth)
+  pub calls : ℕ
+  pub counted : Counted d x.node n calls
+  pub is : r ≡ Ok calls
   pub valued : length x.value ≡ valueLength
   pub keyed : key ≡ keyFrom e d x.node x.value n
   pub beside : row ≡ filled (siblingValues e d x.node x.value n) (mostLevels * valueLength)

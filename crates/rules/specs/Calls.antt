@@ -9,10 +9,11 @@ use Rattle.device.specs.Effects.{Slots}
 use Rattle.session.specs.Limits.{mostLength}
 use Rattle.session.specs.Records.{isRecord}
 use Rattle.layout.specs.declared.Head.{Head}
+use Rattle.tree.specs.declared.Node.{Node}
 use Rattle.tree.specs.Nodes.{Covers}
 use Rattle.tree.specs.Cover.{In}
 use Rattle.tree.specs.Puncture.{siblingsFrom}
-use Rattle.tree.specs.Values.{valued, keyFrom, valueFrom}
+use Rattle.tree.specs.Values.{valued, keyFrom, valueFrom, Counted}
 use Rattle.marks.specs.Rows.{roomOf}
 use Rattle.chain.specs.Reading.{Link, File, fileOf, badHead, badLink, uncovered, sound}
 use Rattle.rules.specs.Kits.{Kit}
@@ -27,6 +28,12 @@ Sound = Head × List Link
 -- the two numbers that issue and redeem answer, or what stopped them
 abbrev pub Outcome : Type 0
 Outcome = Result (ℕ × ℕ) Halt
+
+-- the answer of a call that went down from the node x to the number n: the length of what it wrote, and the generator calls made
+pub record Finished (d : ℕ) (x : Node) (n long : ℕ) (r : Outcome) : Type 0 where
+  pub calls : ℕ
+  pub counted : Counted d x n calls
+  pub is : r ≡ Ok (long, calls)
 
 -- ---- checks that calls share
 -- a device has room for the head, the root's record and a puncture, and its indices fit
@@ -91,7 +98,7 @@ pub data Issuing (k : Kit) (d : ℕ) (s : Slots) (on : Bool) (plain : List ℕ) 
       CutShort s (issueWrite s f.0 ∷ []) m h t → r ≡ Err h → on' ≡ false → ticket ≡ zeros room → headed ≡ nat_lt 0 m →
       Issuing k d s on plain room marks r ticket t on' headed
   given : (f : Sound) (x : Link) → issueVerdict k d s on plain room marks ≡ Ok f → In x f.1 → Covers d x.node f.0.issued →
-      r ≡ Ok (length (issuedTicket k d f.0 x plain), d - x.node.depth) → ticket ≡ filled (issuedTicket k d f.0 x plain) room →
+      Finished d x.node f.0.issued (length (issuedTicket k d f.0 x plain)) r → ticket ≡ filled (issuedTicket k d f.0 x plain) room →
       t ≡ stood s (issueWrite s f.0 ∷ []) → on' ≡ true → headed ≡ true →
       Issuing k d s on plain room marks r ticket t on' headed
 
@@ -161,7 +168,7 @@ pub data Redeeming (k : Kit) (d : ℕ) (s : Slots) (on : Bool) (ticket : List �
   opened : (f : Sound) (front : List Link) (x : Link) (back : List Link) (plain : List ℕ) (fs : List ℕ) →
       Hit k d s on ticket room marks f front x back → Seals k d ticket x plain → Ready k d s f x plain fs →
       t ≡ stood s (redeemWrites s front x back (newLinks k d x (number_in ticket) fs)) → on' ≡ true → joined ≡ true →
-      r ≡ Ok (length plain, d - x.node.depth) → state ≡ filled plain room →
+      Finished d x.node (number_in ticket) (length plain) r → state ≡ filled plain room →
       Redeeming k d s on ticket room marks r state t on' joined
 
 -- ---- reopen, with `marks` bytes of marks

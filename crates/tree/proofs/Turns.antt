@@ -6,7 +6,7 @@ use Rattle.tree.specs.declared.Node.{Node}
 use Rattle.tree.specs.Nodes.{nodeAt, left_of, rightOf, width_of, Covers, IsNode}
 use Rattle.tree.specs.Cover.{In}
 use Rattle.tree.specs.Puncture.{siblingsOn, siblingsFrom}
-use Rattle.tree.specs.Values.{Expansion, bit, step_of, valueFrom}
+use Rattle.tree.specs.Values.{Expansion, bit, step_of, valueFrom, flanked, besides}
 use Rattle.tree.proofs.Members.{depth, first}
 use Rattle.tree.proofs.Replacement.{sib-left, sib-right}
 use Rattle.tree.proofs.Descent.{quot}
@@ -58,15 +58,6 @@ turned g d v x y p b l m q =
     rw (a, h, q)
 
 -- ---- the values of the siblings, by the way down
-abbrev pub flanked : Bool → List ℕ → List ℕ → List ℕ → List ℕ
-flanked false l r vs = vs ++ r
-flanked true l r vs = l ++ vs
-
--- those of the siblings on the way down k levels to n, from a node of value v, one after the other in the nodes' order
-abbrev pub besides : Expansion → ℕ → ℕ → List ℕ → List ℕ
-besides g zero n v = []
-besides g (suc k) n v = flanked (bit k n) (g.left v) (g.right v) (besides g k n (step_of g (bit k n) v))
-
 joined-append : (f : Node → List ℕ) (xs ys : List Node) → flat_map f (xs ++ ys) ≡ flat_map f xs ++ flat_map f ys
 joined-append f [] ys = refl
 joined-append f (x ∷ xs) ys = ap (λ (l : List ℕ). f x ++ l) (joined-append f xs ys) ∙ sym (append_assoc (f x) (flat_map f xs) (flat_map f ys))

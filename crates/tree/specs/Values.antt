@@ -47,9 +47,23 @@ keyFrom g d x v n = follow g v (wayFrom d x n)
 abbrev pub valueFrom : Expansion → ℕ → Node → List ℕ → Node → List ℕ
 valueFrom g d x v y = follow g v (way (y.depth - x.depth) (d - y.depth) y.first)
 
+-- the generator calls made on the way from x down to the leaf n: one for each turn, and the turns are the levels below x
+pub record Counted (d : ℕ) (x : Node) (n : ℕ) (calls : ℕ) : Type 0 where
+  pub turns : calls ≡ length (wayFrom d x n)
+  pub levels : length (wayFrom d x n) ≡ d - x.depth
+
 -- the values of the siblings on the way from x to n, one after the other in the siblings' order
 abbrev pub siblingValues : Expansion → ℕ → Node → List ℕ → ℕ → List ℕ
 siblingValues g d x v n = flat_map (valueFrom g d x v) (siblingsFrom d x n)
+
+-- the same by the turns, on the way down k levels to n from a node of value v: a sibling on the left comes before those further down
+abbrev pub flanked : Bool → List ℕ → List ℕ → List ℕ → List ℕ
+flanked false l r vs = vs ++ r
+flanked true l r vs = l ++ vs
+
+abbrev pub besides : Expansion → ℕ → ℕ → List ℕ → List ℕ
+besides g zero n v = []
+besides g (suc k) n v = flanked (bit k n) (g.left v) (g.right v) (besides g k n (step_of g (bit k n) v))
 
 -- ---- what is proved of them
 pub record TreeLaw (g : Expansion) (d : ℕ) (v : List ℕ) : Type 0 where
