@@ -47,7 +47,7 @@ pub reads_so : ReadsBack → (k : Kit) (d : ℕ) (root name : List ℕ) (m : Mod
     fileOf d k.generator k.sealer s ≡ sound (headIn k d root name m s on b v) v.links
 reads_so reads k d root name m s on b l v = reads k d root name b.issued b.spent s v.links l v.stands v.named v.counted v.below v.covers
 
-sound-links : (g h : Head) (xs ys : List Link) → sound g xs ≡ sound h ys → xs ≡ ys
+pub sound-links : (g h : Head) (xs ys : List Link) → sound g xs ≡ sound h ys → xs ≡ ys
 sound-links g h xs ys e = cc
 
 -- ---- the chain is the cover

@@ -16,4 +16,6 @@ pub mod Told
 pub mod Telling
 pub mod Alike
 pub mod LawHolds
+pub mod Outcomes
+pub mod GoingOn
 pub mod Worked

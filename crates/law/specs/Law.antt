@@ -1,6 +1,6 @@
 -- The law over pasts: a running server has its power on and zeros in its free slots, the chain is the cover, a number opens once
 -- and its ticket opens as its own, and servers that agree answer alike.
-use Rattle.std.specs.Prelude.{◌≡◌, ℕ, ◌-◌, ◌^◌, ◌<◌, ◌≤◌, Bool, true, ◌↔◌, List, [], ◌∷◌, map, length, Ok, Err, ◌≢◌, slice_index_or}
+use Rattle.std.specs.Prelude.{◌≡◌, ℕ, ◌-◌, ◌^◌, ◌<◌, ◌≤◌, Bool, true, ◌↔◌, List, [], ◌∷◌, map, length, Ok, Err, Result, ◌≢◌, slice_index_or}
 use Rattle.octets.specs.Buffers.{filled}
 use Rattle.refusal.specs.declared.Refusal.TheVariants.{NoPower}
 use Rattle.fault.specs.declared.Halt.{Halt}
@@ -41,7 +41,7 @@ pub record CoverLaw (k : Kit) (d : ℕ) (root name : List ℕ) (s : Slots) (b : 
 
 -- ---- once, and its own
 -- the call was not cut, and found the power on
-abbrev pub Uncut : Outcome → Type 0
+abbrev pub Uncut : {A : Type 0} → Result A Halt → Type 0
 Uncut r = (h : Halt) → r ≡ Err h → h.refusal ≢ NoPower
 
 pub record OnceLaw (k : Kit) (d : ℕ) (root name : List ℕ) (m : Mode) (s : Slots) (on : Bool) (b : Book) : Type 0 where

@@ -1,13 +1,22 @@
-//! The law over the pasts of a tree, and the worked examples: two functions that only stand for their contracts.
+//! The law over the pasts of a tree, and the worked examples: functions that only stand for their contracts.
 #![tactic(auto)]
 
 ghost use Rattle.law.specs.Examples.{AllExamples};
+ghost use Rattle.law.specs.GoingOn.{CallsHaveOutcomes, PastsGoOn};
 ghost use Rattle.law.specs.Law.{Law};
 
 /// The law over pasts: a running server has its power on and zeros in its free slots, the chain is the cover, a number opens
 /// once and as its own, and servers that agree answer alike.
 pub fn law_stands() -> u8
     ensures { Law }
+{
+    0
+}
+
+/// Each call has an outcome without a cut wherever the power is on, so each past can go on.
+pub fn pasts_go_on() -> u8
+    ensures calls { CallsHaveOutcomes }
+    ensures pasts { PastsGoOn }
 {
     0
 }
