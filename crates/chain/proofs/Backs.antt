@@ -1,14 +1,14 @@
 -- A file laid out as the cover of the spent numbers is read back.
-use Rattle.std.proofs.Common.{◌≡◌, ℕ, zero, suc, ◌+◌, ◌-◌, ◌*◌, ◌/◌, ◌%◌, ◌^◌, ◌<◌, ◌≤◌, Bool, true, false, not, ◌&&◌, leb, ◌⊎◌, List, [], ◌∷◌, length, get_or, is_some, Some, None, Option, sym, refl, ap, ◌∙◌, subst, ap₂, inl, inr, ⊎_elim, arith, pow_pos}
+use Rattle.std.proofs.Common.{◌≡◌, ℕ, suc, ◌+◌, ◌-◌, ◌*◌, ◌/◌, ◌<◌, ◌≤◌, true, false, leb, ◌⊎◌, List, [], ◌∷◌, get_or, Some, None, Option, sym, refl, ap, ◌∙◌, subst, ap₂, inl, inr, ⊎_elim, arith, pow_pos}
 use Rattle.std.proofs.lemmas.Bool.{cases_Bool, cases_lt, le-leb}
 use Rattle.device.specs.Effects.{Slots}
 use Rattle.layout.specs.declared.Head.{Head}
 use Rattle.layout.specs.declared.NodeFields.{NodeFields}
-use Rattle.layout.specs.Records.{head_of, nodeFields, node_of, value_of}
+use Rattle.layout.specs.Records.{head_of, node_of, value_of}
 use Rattle.layout.proofs.Trips.{head-trip, node-trip}
 use Rattle.tree.specs.declared.Node.{Node}
-use Rattle.tree.specs.Nodes.{nodeAt, rootNode, width_of, IsNode, Covers, Twins}
-use Rattle.tree.specs.Cover.{In, Free, Picked, Ordered, Reached, cover}
+use Rattle.tree.specs.Nodes.{nodeAt, width_of, IsNode, Covers, Twins}
+use Rattle.tree.specs.Cover.{In, Ordered, Reached, cover}
 use Rattle.tree.proofs.Choice.{node-eq}
 use Rattle.tree.proofs.Descent.{same-quot}
 use Rattle.tree.proofs.Exact.{exactly, in_order}
@@ -16,10 +16,10 @@ use Rattle.tree.proofs.Places.{characterised}
 use Rattle.tree.proofs.Shapes.{multiple, node-to, halved}
 use Rattle.chain.specs.Reading.{Link, File.sound, nodeIn, link_at, end_of, isTwin, afterTwin, mayFollow, fileOf}
 use Rattle.chain.specs.Listing.{first_slot}
-use Rattle.chain.specs.Sound.{nodesOf, Chained, fields_of, Stands, Linked, Laid, SoundFile, FileLaws}
-use Rattle.chain.proofs.Order.{twin-from, tested-node}
+use Rattle.chain.specs.Sound.{nodesOf, Chained, fields_of, Linked, Laid, FileLaws}
+use Rattle.chain.proofs.Order.{twin-from}
 use Rattle.chain.proofs.Walks.{laid}
-use Rattle.chain.proofs.Chains.{chained-order, chained-nodes, chained-slots, chained-distinct}
+use Rattle.chain.proofs.Chains.{chained-slots, chained-distinct}
 use Rattle.chain.proofs.Files.{to-sound, of-sound, to-bare}
 use Rattle.chain.proofs.Finds.{found_at, none-at}
 

@@ -1,14 +1,12 @@
 -- What a file that is read is, and which number a file lacks.
-use Rattle.std.proofs.Common.{◌≡◌, ℕ, zero, suc, ◌+◌, ◌-◌, ◌^◌, ◌<◌, ◌≤◌, Bool, true, false, cond, ◌&&◌, eqb, ltb, ◌⊎◌, List, [], ◌∷◌, length, get_or, Some, None, Option, sym, refl, ap, ◌∙◌, subst, inl, inr, ⊎_elim, arith}
-use Rattle.std.proofs.lemmas.Bool.{cases_lt, and_parts, and_from, eqb-true, eq-eqb, ltb-true, ltb-false, le-ltb}
+use Rattle.std.proofs.Common.{◌≡◌, ℕ, suc, ◌^◌, ◌<◌, ◌≤◌, Bool, true, false, cond, ◌&&◌, eqb, ltb, List, [], get_or, Some, None, Option, refl, ap, ◌∙◌, subst, ⊎_elim, arith}
+use Rattle.std.proofs.lemmas.Bool.{cases_lt, and_parts, eqb-true, eq-eqb, ltb-true, ltb-false, le-ltb}
 use Rattle.device.specs.Effects.{Slots}
 use Rattle.layout.specs.declared.Head.{Head}
 use Rattle.layout.specs.Records.{head_of}
-use Rattle.tree.specs.declared.Node.{Node}
-use Rattle.tree.specs.Nodes.{Covers}
-use Rattle.tree.specs.Cover.{In, Ordered, Reached}
-use Rattle.chain.specs.Reading.{Link, Walk, Walk.broken, Walk.walked, File, File.badHead, File.badLink, File.uncovered, File.sound, walk, lowestFrom, judged, headed, fileOf}
-use Rattle.chain.specs.Sound.{nodesOf, Chained, Lowest, SoundFile, Bare}
+use Rattle.tree.specs.Cover.{Ordered, Reached}
+use Rattle.chain.specs.Reading.{Link, Walk, Walk.broken, Walk.walked, File, File.badHead, File.uncovered, File.sound, walk, lowestFrom, judged, headed, fileOf}
+use Rattle.chain.specs.Sound.{nodesOf, Lowest, SoundFile, Bare}
 use Rattle.chain.proofs.Chains.{to-chained, from-chained, chained-order, chained-nodes, chained-slots, chained-distinct}
 use Rattle.chain.proofs.Lowness.{lowest-up, lowest-covered, lowest-bare}
 

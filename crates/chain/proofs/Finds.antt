@@ -1,13 +1,13 @@
 -- The record that covers a number.
-use Rattle.std.proofs.Common.{◌≡◌, ℕ, ◌<◌, ◌≤◌, Bool, true, false, cond, ◌&&◌, ltb, leb, List, [], ◌∷◌, ◌++◌, Some, None, Option, sym, refl, ap, ◌∙◌, subst, inl, inr, ⊎_elim, arith}
+use Rattle.std.proofs.Common.{◌≡◌, ℕ, true, false, leb, List, [], ◌∷◌, Some, None, refl, ap, subst, ⊎_elim, arith}
 use Rattle.std.proofs.lemmas.Bool.{cases_Bool, and_parts, and_from, leb-true, ltb-true, le-leb, lt-ltb, both_ways}
 use Rattle.tree.specs.declared.Node.{Node}
 use Rattle.tree.specs.Nodes.{Covers}
 use Rattle.tree.specs.Cover.{In, Reached}
 use Rattle.chain.specs.declared.Found.{Found}
-use Rattle.chain.specs.Reading.{Link, end_of}
+use Rattle.chain.specs.Reading.{Link}
 use Rattle.chain.specs.Listing.{isUnder, between, findIn}
-use Rattle.chain.specs.Sound.{nodesOf, lastSlot, FoundAt}
+use Rattle.chain.specs.Sound.{nodesOf, FoundAt}
 
 under-covers : (d n : ℕ) (x : Node) → isUnder d x n ≡ true → Covers d x n
 under-covers d n x t = let p = and_parts (leb x.first n) _ t in (leb-true _ _ p.0, ltb-true _ _ p.1)

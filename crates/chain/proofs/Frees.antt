@@ -8,7 +8,7 @@ use Rattle.marks.proofs.Laws.{mark-laws}
 use Rattle.tree.specs.Cover.{In, Distinct}
 use Rattle.chain.specs.Reading.{Link, slots_of}
 use Rattle.chain.specs.Listing.{markedAll}
-use Rattle.chain.specs.Sound.{freeIn, FreeAre, FreeCount}
+use Rattle.chain.specs.Sound.{FreeAre, FreeCount}
 
 -- ---- marks along a chain
 module _ (count i : ℕ) where

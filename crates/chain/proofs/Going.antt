@@ -1,5 +1,5 @@
 -- What holds while the code walks along the chain.
-use Rattle.std.proofs.Common.{◌≡◌, ℕ, zero, suc, ◌+◌, ◌-◌, ◌^◌, ◌<◌, ◌≤◌, Bool, true, false, cond, ◌&&◌, ltb, leb, ◌≢◌, List, [], ◌∷◌, length, get_or, is_some, Some, None, Ok, Err, Option, Result, sym, refl, ap, ◌∙◌, subst, ap₂, inl, inr, ⊎_elim, arith}
+use Rattle.std.proofs.Common.{◌≡◌, ℕ, suc, ◌+◌, ◌-◌, ◌^◌, ◌<◌, ◌≤◌, Bool, true, false, cond, ltb, leb, ◌≢◌, List, [], length, get_or, is_some, Some, None, Ok, Err, Option, Result, sym, refl, ap, ◌∙◌, subst, ap₂, arith}
 use Rattle.std.proofs.lemmas.Bool.{and_left, and_right, and_parts, and_from, leb-true, lt-ltb}
 use Rattle.fault.specs.declared.Halt.{Halt}
 use Rattle.fault.specs.Faults.{placed}
@@ -13,7 +13,7 @@ use Rattle.tree.specs.Nodes.{nodeAt, IsNode}
 use Rattle.chain.specs.declared.Found.{Found}
 use Rattle.chain.specs.declared.Tally.{Tally}
 use Rattle.chain.specs.Reading.{Link, Walk, Walk.broken, Walk.walked, consed, nodeIn, link_at, end_of, mayFollow, walk}
-use Rattle.chain.specs.Listing.{isUnder, first_slot, between, findIn, markedAll, or_else, counted, tally_of, row_of}
+use Rattle.chain.specs.Listing.{isUnder, first_slot, between, findIn, or_else, counted, tally_of, row_of}
 use Rattle.chain.specs.Outcome.{recordNamed, recordRead}
 use Rattle.chain.specs.Steps.{Preceding}
 use Rattle.chain.proofs.Order.{end-within, end_after, tested-node}

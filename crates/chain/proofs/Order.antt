@@ -1,13 +1,13 @@
 -- The order along the chain, as the code tests it.
-use Rattle.std.proofs.Common.{◌≡◌, ℕ, zero, suc, ◌+◌, ◌-◌, ◌*◌, ◌%◌, ◌^◌, ◌<◌, ◌≤◌, Bool, true, false, not, ◌&&◌, T, eqb, ltb, leb, Some, None, Option, sym, refl, ap, ◌∙◌, subst, inl, inr, ⊎_elim, mul-le-mul_right, arith, pow_pos}
+use Rattle.std.proofs.Common.{◌≡◌, ℕ, ◌-◌, ◌*◌, ◌%◌, ◌^◌, ◌<◌, ◌≤◌, Bool, true, false, not, T, eqb, ltb, leb, Some, None, Option, sym, refl, ap, ◌∙◌, subst, inl, inr, ⊎_elim, arith, pow_pos}
 use Rattle.std.proofs.lemmas.Bool.{cases_Bool, cases_lt, and_parts, eq-eqb, eqb-true, le-leb, leb-true, ltb-true}
 use Rattle.tree.specs.declared.Node.{Node}
 use Rattle.tree.specs.Nodes.{nodeAt, width_of, IsNode, Twins}
-use Rattle.tree.proofs.Members.{Range, range}
+use Rattle.tree.proofs.Members.{range}
 use Rattle.tree.proofs.Places.{is-under}
 use Rattle.tree.proofs.Shapes.{node-from, twins-from, twins-to}
 use Rattle.layout.specs.Records.{isNode}
-use Rattle.chain.specs.Reading.{end_of, isTwin, afterTwin, mayFollow}
+use Rattle.chain.specs.Reading.{end_of, isTwin, mayFollow}
 use Rattle.chain.specs.Steps.{Preceding}
 
 -- a node ends within the tree, and after its first number

@@ -1,11 +1,11 @@
 -- What reading a file comes to, for every content of the slots, on or off power: which refusal, or which head and chain.
-use Rattle.std.specs.Prelude.{◌≡◌, ℕ, suc, ◌^◌, ◌<◌, ◌≤◌, Bool, true, false, cond, ◌&&◌, ◌⊎◌, List, [], length, Some, None, Ok, Err, Option, Result, ◌==◌, nat_lt, slice_index_or}
+use Rattle.std.specs.Prelude.{ℕ, suc, ◌^◌, Bool, cond, ◌&&◌, List, [], length, Some, None, Ok, Err, Option, Result, ◌==◌, nat_lt, slice_index_or}
 use Rattle.refusal.specs.declared.Refusal.TheVariants.{ShortBuffer, BadHead, BadLink, Uncovered, NoSuchSlot}
 use Rattle.fault.specs.declared.Halt.{Halt}
 use Rattle.fault.specs.declared.Step.TheVariants.{Read}
 use Rattle.fault.specs.Faults.{plainly, placed, unpowered}
 use Rattle.octets.specs.Buffers.{zeros}
-use Rattle.device.specs.Effects.{Slot, Slots}
+use Rattle.device.specs.Effects.{Slots}
 use Rattle.layout.specs.declared.Head.{Head}
 use Rattle.layout.specs.declared.NodeFields.{NodeFields}
 use Rattle.layout.specs.Records.{head_of, node_of}
@@ -52,11 +52,6 @@ marksOf m (declined f) = zeros m
 marksOf m (read h xs) = markedAll (zeros m) xs
 
 -- ---- the steps
--- a slot is read, or the reason why not carries the slot
-abbrev pub Fetching : Slots → Bool → ℕ → Result (Unit {0}) Halt → Slot → Type 0
-Fetching s on i (Ok _) out = (i < length s) × (on ≡ true) × (out ≡ slice_index_or s i [])
-Fetching s on i (Err f) out = ((length s ≤ i) × (f ≡ placed NoSuchSlot i)) ⊎ ((i < length s) × (on ≡ false) × (f ≡ unpowered i Read))
-
 abbrev pub headNamed : ℕ → ℕ → Option Head → Result Head Halt
 headNamed g w None = Err (plainly BadHead)
 headNamed g w (Some h) = cond (h.generator == g && h.sealer == w) (Ok h) (Err (plainly BadHead))

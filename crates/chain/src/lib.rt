@@ -2,6 +2,8 @@
 //!
 //! It needs a device that can be read, and nothing else. What a file is stands in specs/Reading.antt, what the calls
 //! answer in specs/Outcome.antt, and what a server asks of the chain in specs/Listing.antt.
+#![tactic(auto)]
+
 ghost use Rattle.std.specs.Prelude.{◌≡◌, ℕ, suc, ◌+◌, ◌^◌, ◌<◌, ◌≤◌, max, true, List, length, Some, None};
 ghost use Rattle.octets.specs.Buffers.{zeros};
 ghost use Rattle.device.specs.Effects.{blank};
@@ -10,18 +12,19 @@ ghost use Rattle.refusal.specs.declared.Refusal.TheVariants.{BadLink};
 ghost use Rattle.tree.specs.Nodes.{treeLevels, IsNode};
 ghost use Rattle.chain.specs.Reading.{Link, Walk.walked, end_of, mayFollow, walk};
 ghost use Rattle.chain.specs.Listing.{counted, tally_of, noneYet, markedAll};
-ghost use Rattle.chain.specs.Outcome.{Reading.read, chainOf, reading_of, answer_of, marksOf, Fetching, headRead, recordRead};
+ghost use Rattle.chain.specs.Outcome.{Reading.read, chainOf, reading_of, answer_of, marksOf, headRead, recordRead};
 ghost use Rattle.layout.specs.declared.Head.{Head};
 ghost use Rattle.chain.specs.Sound.{FileLaws, FreeAre, FreeCount, freeIn};
 ghost use Rattle.chain.specs.Steps.{Preceding};
 ghost use Rattle.marks.specs.Rows.{first_of};
 
-use octets::{Wiped, clear};
-use device::{DeviceFault, ReadSlots};
-use fault::{Halt, Step};
+use device::ReadSlots;
+use fault::Halt;
 use layout::{Head, NodeFields, decode_head, decode_node};
 use marks::{count_unmarked, first_unmarked, mark, room};
+use octets::{Wiped, clear};
 use refusal::Refusal;
+use steps::read_at;
 use tree::{LEVELS, Node};
 
 // How many numbers the tree has.
@@ -60,30 +63,7 @@ struct Tally {
 fn bad_link(slot: u16) -> Halt
     ensures { result ≡ placed BadLink slot }
 {
-    Halt {
-        refusal: Refusal::BadLink,
-        place: slot as u32,
-        step: None,
-    }
-}
-
-// Reads a slot; the reason why it cannot be read carries the slot.
-fn fetch<D: ReadSlots>(device: &D, index: u16, slot: &mut [u8; 64]) -> Result<(), Halt>
-    ensures { Fetching (D.slots device.now) (D.powered device.now) index result slot.new }
-{
-    match device.read(index as usize, slot) {
-        Ok(()) => Ok(()),
-        Err(DeviceFault::NoSuchSlot) => Err(Halt {
-            refusal: Refusal::NoSuchSlot,
-            place: index as u32,
-            step: None,
-        }),
-        Err(DeviceFault::NoPower) => Err(Halt {
-            refusal: Refusal::NoPower,
-            place: index as u32,
-            step: Some(Step::Read),
-        }),
-    }
+    Halt::at(Refusal::BadLink, u32::from(slot))
 }
 
 // Reads the head, which has to name this generator and this sealer.
@@ -95,12 +75,8 @@ fn read_head<D: ReadSlots>(
 ) -> Result<Head, Halt>
     ensures { result ≡ headRead treeLevels generator sealer (D.slots device.now) (D.powered device.now) }
 {
-    fetch(device, 0, slot)?;
-    let bad = Halt {
-        refusal: Refusal::BadHead,
-        place: 0,
-        step: None,
-    };
+    read_at(device, 0, slot)?;
+    let bad = Halt::plain(Refusal::BadHead);
     let Some(head) = decode_head(LEVELS, slot) else {
         return Err(bad);
     };
@@ -118,7 +94,7 @@ fn read_record<D: ReadSlots>(
 ) -> Result<NodeFields, Halt>
     ensures { result ≡ recordRead treeLevels (D.slots device.now) (D.powered device.now) index }
 {
-    fetch(device, index, slot)?;
+    read_at(device, index, slot)?;
     match decode_node(LEVELS, slot) {
         Some(fields) => Ok(fields),
         None => Err(bad_link(index)),
@@ -237,11 +213,7 @@ fn judge<D: ReadSlots>(
 {
     let tally = walk_along(device, head, wanted, marks, slot)?;
     if tally.lowest < LEAVES {
-        return Err(Halt {
-            refusal: Refusal::Uncovered,
-            place: tally.lowest,
-            step: None,
-        });
+        return Err(Halt::at(Refusal::Uncovered, tally.lowest));
     }
     Ok(Survey {
         head: *head,
@@ -268,11 +240,7 @@ pub fn read_marking<D: ReadSlots>(
     let guard = Wiped { pad: slot };
     clear(marks);
     if marks.len() < room(device.count()) {
-        return Err(Halt {
-            refusal: Refusal::ShortBuffer,
-            place: 0,
-            step: None,
-        });
+        return Err(Halt::plain(Refusal::ShortBuffer));
     }
     let head = read_head(device, generator, sealer, guard.pad)?;
     let wanted = match asked {

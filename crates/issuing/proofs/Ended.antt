@@ -1,15 +1,15 @@
 -- An issue whose head write is cut.
-use Rattle.std.proofs.Common.{◌≡◌, ℕ, ◌<◌, Bool, List, [], ◌∷◌, length, Ok, Err, Result, sym, refl, ap, ◌∙◌, subst, arith}
+use Rattle.std.proofs.Common.{◌≡◌, ℕ, ◌<◌, Bool, List, [], ◌∷◌, length, Ok, Err, Result, ap, subst, arith}
 use Rattle.device.specs.Effects.{Slot, Slots}
 use Rattle.fault.specs.declared.Halt.{Halt}
 use Rattle.fault.specs.declared.Step.TheVariants.{Head as HeadStep}
 use Rattle.layout.specs.declared.Head.{Head}
 use Rattle.chain.specs.declared.Found.{Found}
 use Rattle.rules.specs.Kits.{Kit}
-use Rattle.rules.specs.Writes.{Write, writeOf, Stepped, Ran, through, failed, CutShort}
+use Rattle.steps.specs.OneStep.{writeOf, Stepped}
+use Rattle.steps.specs.Writes.{Ran, through, failed}
 use Rattle.rules.specs.Files.{issueWrite}
-use Rattle.rules.specs.Calls.{Outcome}
-use Rattle.rules.proofs.Plans.{ran-one}
+use Rattle.steps.proofs.Plans.{ran-one}
 use Rattle.issuing.specs.Ends.{IssueEnds, ended}
 
 same-halt : (e h : Halt) → ◌≡◌ {A = Result (Unit {0}) Halt} (Err e) (Err h) → e ≡ h

@@ -1,29 +1,26 @@
 -- Issuing, from what its parts tell.
-use Rattle.std.proofs.Common.{◌≡◌, ℕ, zero, suc, ◌-◌, ◌^◌, ◌<◌, ◌≤◌, Bool, true, false, cond, ◌&&◌, ltb, leb, ◌⊎◌, List, [], ◌∷◌, ◌++◌, map, length, get_or, is_err, Some, None, Ok, Err, Option, Result, sym, refl, ap, ◌∙◌, subst, inl, inr, arith}
+use Rattle.std.proofs.Common.{◌≡◌, ℕ, ◌-◌, ◌<◌, ◌≤◌, Bool, true, false, cond, ◌&&◌, ltb, leb, List, [], ◌∷◌, ◌++◌, length, get_or, is_err, Some, None, Ok, Err, Result, sym, refl, ap, ◌∙◌, subst, inl, inr, arith}
 use Rattle.std.proofs.lemmas.Bool.{and_parts, leb-true, lt-ltb, le-ltb}
 use Rattle.octets.specs.Buffers.{zeros}
 use Rattle.refusal.specs.declared.Refusal.TheVariants.{ShortBuffer, SlotCount, NotARecord, Exhausted}
 use Rattle.fault.specs.declared.Halt.{Halt}
 use Rattle.fault.specs.Faults.{plainly}
 use Rattle.device.specs.Effects.{Slots}
-use Rattle.layout.specs.declared.Head.{Head}
 use Rattle.layout.specs.Records.{value_of}
 use Rattle.marks.specs.Rows.{roomOf}
 use Rattle.session.specs.Records.{isRecord}
 use Rattle.session.proofs.Trip.{most}
 use Rattle.tree.specs.declared.Node.{Node}
-use Rattle.tree.specs.Nodes.{treeLevels, Covers, Above}
+use Rattle.tree.specs.Nodes.{treeLevels, Above}
 use Rattle.tree.specs.Cover.{In}
 use Rattle.chain.specs.declared.Survey.{Survey}
 use Rattle.chain.specs.declared.Found.{Found}
-use Rattle.chain.specs.Reading.{Link, File, File.sound, fileOf, link_at, slots_of}
+use Rattle.chain.specs.Reading.{Link, fileOf, link_at, slots_of}
 use Rattle.chain.specs.Outcome.{reading_of, answer_of}
 use Rattle.chain.specs.Sound.{SoundFile, FoundAt, FileLaws, nodesOf}
 use Rattle.rules.specs.Kits.{Kit}
-use Rattle.rules.specs.Writes.{CutShort, stood}
-use Rattle.rules.specs.Files.{issueWrite}
 use Rattle.rules.specs.Tickets.{ticketMost}
-use Rattle.rules.specs.Calls.{Sound, Outcome, Finished, countFits, readAs, read_by, issuable, issueVerdict, issuedTicket, Untouched, Issuing, Issuing.declined, Issuing.cut, Issuing.given, kept}
+use Rattle.rules.specs.Calls.{Sound, Outcome, Finished, countFits, readAs, read_by, issuable, issueVerdict, issuedTicket, Issuing, Issuing.declined, Issuing.cut, Issuing.given, kept}
 use Rattle.issuing.specs.Ends.{issueEntry, Issuable, link_of, IssueEnds, ended, gave}
 use Rattle.issuing.proofs.Surveys.{seen, err-as, Told, ok-as, reading-is, link-value}
 

@@ -1,8 +1,8 @@
 -- What a reading tells of the file, in the words of the calls.
-use Rattle.std.proofs.Common.{◌≡◌, ℕ, zero, suc, ◌^◌, ◌<◌, ◌≤◌, Bool, true, false, cond, ltb, leb, ◌⊎◌, List, [], ◌∷◌, length, get_or, Some, None, Ok, Err, Option, Result, sym, refl, ap, ◌∙◌, subst, inl, inr, arith}
+use Rattle.std.proofs.Common.{◌≡◌, ℕ, Bool, true, false, cond, ltb, List, [], ◌∷◌, length, get_or, Some, Ok, Err, Option, Result, sym, refl, ap, ◌∙◌, inl, inr, arith}
 use Rattle.fault.specs.declared.Halt.{Halt}
 use Rattle.fault.specs.declared.Step.TheVariants.{Read}
-use Rattle.fault.specs.Faults.{plainly, placed, unpowered}
+use Rattle.fault.specs.Faults.{unpowered}
 use Rattle.device.specs.Effects.{Slots}
 use Rattle.layout.specs.declared.Head.{Head}
 use Rattle.marks.specs.Rows.{roomOf}
@@ -11,10 +11,10 @@ use Rattle.tree.specs.Cover.{In}
 use Rattle.chain.specs.declared.Survey.{Survey}
 use Rattle.chain.specs.Reading.{Link, File, File.badHead, File.badLink, File.uncovered, File.sound, link_at, fileOf, nodeIn, end_of}
 use Rattle.chain.specs.Listing.{findIn}
-use Rattle.chain.specs.Outcome.{Reading, Reading.declined, Reading.read, judgedAs, reading_of, asked_of, answer_of}
+use Rattle.chain.specs.Outcome.{Reading, Reading.declined, judgedAs, reading_of, asked_of, answer_of}
 use Rattle.chain.specs.Sound.{Chained}
-use Rattle.layout.specs.Records.{nodeFields, node_of}
-use Rattle.rules.specs.Calls.{Sound, readAs}
+use Rattle.layout.specs.Records.{nodeFields}
+use Rattle.rules.specs.Calls.{readAs}
 
 clash : {A B : Type 0} (a : A) (b : B) → ◌≡◌ {A = Result A B} (Ok a) (Err b) → ⊥
 clash a b e = let z : ◌≡◌ {A = ℕ} 0 1 = cc in omega arith

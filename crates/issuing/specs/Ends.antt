@@ -15,7 +15,7 @@ use Rattle.chain.specs.declared.Found.{Found}
 use Rattle.chain.specs.Reading.{Link}
 use Rattle.rules.specs.Kits.{Kit}
 use Rattle.rules.specs.Tickets.{ticketMost}
-use Rattle.rules.specs.Writes.{stood, CutShort}
+use Rattle.steps.specs.Writes.{stood, CutShort}
 use Rattle.rules.specs.Files.{issueWrite}
 use Rattle.rules.specs.Calls.{Outcome, Finished, issuedTicket, countFits}
 

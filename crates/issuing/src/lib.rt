@@ -1,4 +1,6 @@
 //! Issuing a ticket, over a device lent for the call.
+#![tactic(auto)]
+
 ghost use Rattle.std.specs.Prelude.{◌≡◌, ℕ, ◌+◌, ◌-◌, ◌<◌, ◌≤◌, Bool, true, List, [], ◌++◌, length, replicate, slice_index_or};
 ghost use Rattle.octets.specs.Buffers.{zeros, filled};
 ghost use Rattle.session.specs.Limits.{mostLength};
@@ -11,18 +13,19 @@ ghost use Rattle.scratch.specs.Clean.{Clean};
 ghost use Rattle.tree.specs.Nodes.{treeLevels};
 ghost use Rattle.issuing.specs.Ends.{Issuable, IssueEnds, issueEntry};
 
-use octets::{clear, put_u32};
 use chain::{Found, read_file};
 use device::{ReadSlots, WriteSlots};
 use fault::{Halt, Step};
 use generator::{Generator, descend};
 use layout::Head;
 use marks::room;
+use octets::{clear, put_u32};
 use refusal::Refusal;
-use rules::{slot_count, write_at};
+use rules::slot_count;
 use scratch::Scratch;
 use sealer::{Sealer, heading};
 use session::is_record;
+use steps::{read_at, write_at};
 use tree::LEVELS;
 
 /// The bytes that a ticket's buffer must have: the heading, the longest record and the largest overhead.
@@ -39,21 +42,28 @@ fn copy_value(slot: &[u8; 64], value: &mut [u8; 32])
 }
 
 // Loads the value of the record in a slot.
-fn load_value<D: ReadSlots>(d: &D, index: u16, slot: &mut [u8; 64], value: &mut [u8; 32])
+fn load_value<D: ReadSlots>(
+    d: &D,
+    index: u16,
+    slot: &mut [u8; 64],
+    value: &mut [u8; 32],
+) -> Result<(), Halt>
     requires { (index < length (D.slots d.now)) × (D.powered d.now ≡ true) }
-    ensures { value.new ≡ value_of (slice_index_or (D.slots d.now) index []) }
+    ensures { (result ≡ Ok tt) × (value.new ≡ value_of (slice_index_or (D.slots d.now) index [])) }
 {
-    let _ = d.read(index as usize, slot);
+    read_at(d, index, slot)?;
     copy_value(slot, value);
+    Ok(())
 }
 
 // The head with one number more issued than `issued`, in the lent slot.
-fn next_head<D: ReadSlots>(d: &D, issued: u32, slot: &mut [u8; 64])
+fn next_head<D: ReadSlots>(d: &D, issued: u32, slot: &mut [u8; 64]) -> Result<(), Halt>
     requires { (0 < length (D.slots d.now)) × ((D.powered d.now ≡ true) × (issued < 65536)) }
-    ensures { slot.new ≡ recounted (issued + 1) (slice_index_or (D.slots d.now) 0 []) }
+    ensures { (result ≡ Ok tt) × (slot.new ≡ recounted (issued + 1) (slice_index_or (D.slots d.now) 0 [])) }
 {
-    let _ = d.read(0, slot);
+    read_at(d, 0, slot)?;
     put_u32(slot, 6, issued + 1);
+    Ok(())
 }
 
 // Writes the ticket of a number: the heading, and the plain sealed under the key.
@@ -94,7 +104,7 @@ fn issue_found<D: WriteSlots, G: Generator, S: Sealer>(
     requires { Issuable (D.ReadSlots.slots d.old) (D.ReadSlots.powered d.old) head.now found.now plain.now (length ticket.old) }
     ensures { IssueEnds (kitOf (G.Generator.expansion g.now) (G.Generator.code g.now) (S.Sealer.sealing s.now) (S.Sealer.overhead s.now) (S.Sealer.number s.now)) (D.ReadSlots.slots d.old) head.now found.now plain.now (length ticket.old) result ticket.new (D.ReadSlots.slots d.new) (D.ReadSlots.powered d.new) }
 {
-    load_value(d, found.slot, &mut scratch.slot, &mut scratch.key);
+    load_value(d, found.slot, &mut scratch.slot, &mut scratch.key)?;
     let calls = descend(
         g,
         LEVELS,
@@ -104,7 +114,7 @@ fn issue_found<D: WriteSlots, G: Generator, S: Sealer>(
         &mut scratch.left,
         &mut scratch.right,
     );
-    next_head(d, head.issued, &mut scratch.slot);
+    next_head(d, head.issued, &mut scratch.slot)?;
     write_at(d, 0, &scratch.slot, Step::Head)?;
     let length = seal_ticket(
         s,
@@ -123,19 +133,11 @@ fn may_issue<D: ReadSlots>(d: &D, plain: &[u8], ticket: usize, marks: usize) -> 
     ensures { result ≡ issueEntry treeLevels (D.slots d.now) plain.now ticket marks }
 {
     if ticket < TICKET_MOST || marks < room(d.count()) {
-        return Err(Halt {
-            refusal: Refusal::ShortBuffer,
-            place: 0,
-            step: None,
-        });
+        return Err(Halt::plain(Refusal::ShortBuffer));
     }
     slot_count(d)?;
     if !is_record(plain) {
-        return Err(Halt {
-            refusal: Refusal::NotARecord,
-            place: 0,
-            step: None,
-        });
+        return Err(Halt::plain(Refusal::NotARecord));
     }
     Ok(())
 }
@@ -155,20 +157,12 @@ fn issue_into<D: WriteSlots, G: Generator, S: Sealer>(
     may_issue(d, plain, ticket.len(), marks.len())?;
     let survey = read_file(d, g.number(), s.number(), None, marks, &mut scratch.slot)?;
     if survey.head.issued >= LEAVES {
-        return Err(Halt {
-            refusal: Refusal::Exhausted,
-            place: 0,
-            step: None,
-        });
+        return Err(Halt::plain(Refusal::Exhausted));
     }
     match survey.found {
         Some(found) => issue_found(d, g, s, &survey.head, &found, plain, ticket, scratch),
         // never: a number that is not issued lies under a record
-        None => Err(Halt {
-            refusal: Refusal::Uncovered,
-            place: survey.head.issued,
-            step: None,
-        }),
+        None => Err(Halt::at(Refusal::Uncovered, survey.head.issued)),
     }
 }
 

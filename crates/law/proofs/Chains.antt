@@ -6,7 +6,8 @@ use Rattle.tree.specs.Cover.{In, Distinct}
 use Rattle.tree.specs.Values.{Valued}
 use Rattle.chain.specs.Reading.{Link, valuedOf, slots_of}
 use Rattle.rules.specs.Kits.{Kit}
-use Rattle.rules.specs.Writes.{Write, stood}
+use Rattle.steps.specs.OneStep.{Write}
+use Rattle.steps.specs.Writes.{stood}
 use Rattle.rules.specs.Files.{entry, recordOf}
 use Rattle.rules.specs.Calls.{countFits, slotsLeast, slotsMost}
 use Rattle.law.proofs.Invariant.{Linked, Stands}

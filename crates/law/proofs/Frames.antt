@@ -5,7 +5,8 @@ use Rattle.device.specs.Effects.{Slot, Slots}
 use Rattle.tree.specs.Cover.{In}
 use Rattle.chain.specs.Reading.{Link, slots_of}
 use Rattle.rules.specs.Kits.{Kit}
-use Rattle.rules.specs.Writes.{Write, stood}
+use Rattle.steps.specs.OneStep.{Write}
+use Rattle.steps.specs.Writes.{stood}
 use Rattle.rules.specs.Calls.{countFits}
 use Rattle.law.proofs.Invariant.{Linked, Stands}
 

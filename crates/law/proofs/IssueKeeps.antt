@@ -14,7 +14,8 @@ use Rattle.tree.specs.Values.{key_of}
 use Rattle.chain.specs.Reading.{Link}
 use Rattle.rules.specs.Kits.{Kit}
 use Rattle.rules.specs.Tickets.{ticketOf}
-use Rattle.rules.specs.Writes.{Write, stood, CutShort}
+use Rattle.steps.specs.OneStep.{Write}
+use Rattle.steps.specs.Writes.{stood, CutShort}
 use Rattle.rules.specs.Files.{entry, recounted, issueWrite}
 use Rattle.rules.specs.Calls.{Sound, Outcome, read_by, issuedTicket, issueVerdict, declined, cut, given}
 use Rattle.rules.specs.Books.{Given, Book, raised, issue, fed}

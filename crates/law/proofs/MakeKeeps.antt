@@ -11,7 +11,8 @@ use Rattle.tree.specs.Nodes.{rootNode}
 use Rattle.tree.specs.Cover.{In}
 use Rattle.chain.specs.Reading.{Link}
 use Rattle.rules.specs.Kits.{Kit, valueLength, nameLength}
-use Rattle.rules.specs.Writes.{Write, stood, CutShort}
+use Rattle.steps.specs.OneStep.{Write}
+use Rattle.steps.specs.Writes.{stood, CutShort}
 use Rattle.rules.specs.Files.{blankWrites, rootRecord, firstHead, makeWrites}
 use Rattle.rules.specs.Calls.{countFits, Making, declined, stopped, cut, made}
 use Rattle.rules.specs.Books.{freshBook}

@@ -8,7 +8,7 @@ use Rattle.tree.specs.Cover.{In}
 use Rattle.tree.proofs.Members.{in-cases}
 use Rattle.chain.specs.Reading.{Link}
 use Rattle.rules.specs.Kits.{Kit}
-use Rattle.rules.specs.Writes.{Write}
+use Rattle.steps.specs.OneStep.{Write}
 use Rattle.rules.specs.Files.{entry, lastSlot, recordOf, relinked, recounted, issueWrite, newWrites, joinWrite, eraseWrite, redeemWrites}
 use Rattle.rules.specs.Calls.{Sound, Outcome, read_by, newLinks, Hit, Issuing, Redeeming, Issuing.declined, Issuing.cut, Issuing.given, Redeeming.spent, Redeeming.shut, Redeeming.strange, Redeeming.full, Redeeming.opened}
 use Rattle.rules.specs.Tickets.{number_in}

@@ -19,7 +19,8 @@ use Rattle.marks.specs.Rows.{roomOf}
 use Rattle.chain.specs.Reading.{Link, File, valuedOf, slots_of, fileOf}
 use Rattle.rules.specs.Kits.{Kit}
 use Rattle.rules.specs.Tickets.{nameIn, number_in, ticketLeast, ticketLongest}
-use Rattle.rules.specs.Writes.{Write, stood, CutShort}
+use Rattle.steps.specs.OneStep.{Write}
+use Rattle.steps.specs.Writes.{stood, CutShort}
 use Rattle.rules.specs.Files.{entry, linksIn, newWrites, joinWrite, eraseWrite, redeemWrites}
 use Rattle.rules.specs.Calls.{Sound, Outcome, countFits, readAs, read_by, sameBytes, Untouched, redeemable, redeemVerdict, Hit, newLinks, Ready, Redeeming}
 use Rattle.rules.specs.Books.{Book, redeem, fed}

@@ -10,7 +10,8 @@ use Rattle.tree.specs.Cover.{In}
 use Rattle.tree.proofs.Members.{in-cases}
 use Rattle.chain.specs.Reading.{Link, slots_of}
 use Rattle.rules.specs.Kits.{Kit}
-use Rattle.rules.specs.Writes.{Write, stood}
+use Rattle.steps.specs.OneStep.{Write}
+use Rattle.steps.specs.Writes.{stood}
 use Rattle.rules.specs.Files.{entry, holds, isBlank, sweepFrom, sweepWrites}
 use Rattle.rules.specs.Calls.{Sound, Reopening, declined, stopped, faulty, cut, swept}
 use Rattle.rules.specs.Books.{Book}

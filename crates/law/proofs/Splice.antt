@@ -10,7 +10,8 @@ use Rattle.tree.specs.Cover.{In, Distinct}
 use Rattle.tree.specs.Values.{Valued}
 use Rattle.chain.specs.Reading.{Link, valuedOf, slots_of}
 use Rattle.rules.specs.Kits.{Kit}
-use Rattle.rules.specs.Writes.{Write, stood}
+use Rattle.steps.specs.OneStep.{Write}
+use Rattle.steps.specs.Writes.{stood}
 use Rattle.rules.specs.Files.{relinked, entry, lastSlot, recordOf, linksIn, newWrites, joinWrite, eraseWrite, redeemWrites}
 use Rattle.rules.specs.Calls.{slotsLeast, slotsMost}
 use Rattle.law.specs.Law.{RestBlank}

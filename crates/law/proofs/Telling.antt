@@ -19,7 +19,8 @@ use Rattle.chain.specs.Reading.{Link, valuedOf}
 use Rattle.marks.specs.Rows.{roomOf}
 use Rattle.rules.specs.Kits.{Kit, Lawful, valueLength, headingLength}
 use Rattle.rules.specs.Tickets.{ticketOf, nameIn, number_in, headingIn, sealedIn, ticketLeast, ticketLongest, ticketMost}
-use Rattle.rules.specs.Writes.{Write, CutShort}
+use Rattle.steps.specs.OneStep.{Write}
+use Rattle.steps.specs.Writes.{CutShort}
 use Rattle.rules.specs.Files.{entry, issueWrite, redeemWrites, freeCount}
 use Rattle.rules.proofs.Counting.{by_levels}
 use Rattle.rules.specs.Calls.{Sound, Outcome, Finished, read_by, countFits, sameBytes, issuable, issueVerdict, issuedTicket, redeemable, redeemVerdict, Hit, Seals, newLinks, Issuing, Redeeming}

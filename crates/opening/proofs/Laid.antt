@@ -1,13 +1,14 @@
 -- The writes of making a tree, put together from their parts.
-use Rattle.std.proofs.Common.{◌≡◌, ℕ, ◌+◌, ◌<◌, ◌≤◌, Bool, List, [], ◌∷◌, ◌++◌, length, Ok, Err, Result, sym, ap, ◌∙◌, append_assoc, arith}
+use Rattle.std.proofs.Common.{◌≡◌, ℕ, ◌<◌, ◌≤◌, Bool, List, [], ◌∷◌, ◌++◌, length, Ok, Err, Result, sym, ap, ◌∙◌, append_assoc, arith}
 use Rattle.device.specs.Effects.{Slot, Slots}
 use Rattle.fault.specs.declared.Halt.{Halt}
 use Rattle.fault.specs.declared.Step.TheVariants.{Make}
 use Rattle.layout.specs.declared.Head.{Head}
 use Rattle.layout.specs.Records.{encodeHead}
-use Rattle.rules.specs.Writes.{Write, writeOf, Stepped, Ran}
+use Rattle.steps.specs.OneStep.{Write, writeOf, Stepped}
+use Rattle.steps.specs.Writes.{Ran}
 use Rattle.rules.specs.Files.{blankWrites, rootRecord, treeWrites}
-use Rattle.rules.proofs.Plans.{ran-next, ran-cut, ran-as}
+use Rattle.steps.proofs.Plans.{ran-next, ran-cut, ran-as}
 
 module _ (d : ℕ) (s : Slots) (n : ℕ) (root : List ℕ) (h : Head) (many : length s ≡ n) (some : 2 ≤ n) where
   rootWrite : Slot → Write

@@ -1,3 +1,4 @@
+pub mod Blanks
 pub mod Laid
 pub mod Made
 pub mod Marked

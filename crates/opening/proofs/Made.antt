@@ -1,10 +1,10 @@
 -- Making, from its writes.
-use Rattle.std.proofs.Common.{◌≡◌, ℕ, ◌+◌, Bool, true, ltb, List, length, Result, sym, refl, ap, ◌∙◌, subst}
+use Rattle.std.proofs.Common.{◌≡◌, ℕ, ◌+◌, Bool, true, ltb, List, length, Result, refl, subst}
 use Rattle.device.specs.Effects.{Slots}
 use Rattle.fault.specs.declared.Halt.{Halt}
 use Rattle.layout.specs.declared.Head.{Head}
 use Rattle.rules.specs.Kits.{Kit}
-use Rattle.rules.specs.Writes.{Ran, through, failed}
+use Rattle.steps.specs.Writes.{Ran, through, failed}
 use Rattle.rules.specs.Files.{firstHead, treeWrites, makeWrites}
 use Rattle.rules.specs.Calls.{countFits, Making, made, cut}
 

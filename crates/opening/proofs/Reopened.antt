@@ -1,5 +1,5 @@
 -- Reopening, from what its steps leave.
-use Rattle.std.proofs.Common.{◌≡◌, ℕ, ◌+◌, ◌<◌, ◌≤◌, Bool, true, false, cond, ◌&&◌, ltb, leb, List, length, None, Ok, Err, Result, sym, refl, ap, ◌∙◌, subst, arith}
+use Rattle.std.proofs.Common.{◌≡◌, ℕ, ◌+◌, ◌<◌, ◌≤◌, Bool, true, false, cond, ltb, leb, List, length, None, Ok, Err, Result, sym, refl, ap, ◌∙◌, subst, arith}
 use Rattle.std.proofs.lemmas.Bool.{leb-true, le-leb, lt-leb, le-ltb, lt-ltb, and_parts, cond-true, cond-false}
 use Rattle.octets.specs.Buffers.{zeros}
 use Rattle.refusal.specs.declared.Refusal.TheVariants.{ShortBuffer, SlotCount}
@@ -12,7 +12,7 @@ use Rattle.chain.specs.Reading.{Link, File, badHead, badLink, uncovered, sound, 
 use Rattle.chain.specs.Listing.{markedAll}
 use Rattle.chain.specs.Outcome.{judgedAs, reading_of, answer_of, marksOf}
 use Rattle.rules.specs.Kits.{Kit}
-use Rattle.rules.specs.Writes.{Ran, through, failed}
+use Rattle.steps.specs.Writes.{Ran, through, failed}
 use Rattle.rules.specs.Files.{sweepWrites}
 use Rattle.rules.specs.Calls.{Sound, Fitting, countFits, slotsLeast, slotsMost, reopenVerdict, read_by, readAs, Reopening, faulty, cut, swept}
 use Rattle.opening.specs.Sweeps.{Admitted}

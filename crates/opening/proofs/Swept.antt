@@ -1,27 +1,21 @@
 -- Sweeping, slot by slot.
 use Rattle.std.proofs.Common.{◌≡◌, ℕ, suc, ◌+◌, ◌-◌, ◌<◌, ◌≤◌, Bool, true, false, cond, ◌||◌, ◌≢◌, List, [], ◌∷◌, ◌++◌, length, get_or, take, drop, Ok, Err, Result, sym, refl, ap, ◌∙◌, append_assoc, append-nil, arith, length-drop, take-append-drop}
 use Rattle.std.proofs.lemmas.List.{take_more, take_all, length-take-le, get_or-drop, get_or-set_other}
-use Rattle.device.specs.Effects.{Slot, Slots, Answer, Reading, blank}
-use Rattle.device.specs.declared.DeviceFault.TheVariants.{NoSuchSlot, NoPower}
+use Rattle.device.specs.Effects.{Slot, Slots, blank}
 use Rattle.fault.specs.declared.Halt.{Halt}
 use Rattle.fault.specs.declared.Step.TheVariants.{Sweep}
 use Rattle.octets.specs.Buffers.{zeros}
 use Rattle.marks.specs.Rows.{roomOf, isMarked}
 use Rattle.chain.specs.Reading.{Link, slots_of}
 use Rattle.chain.specs.Listing.{markedAll}
-use Rattle.rules.specs.Writes.{Write, writeOf, Stepped, stood, Ran, through, failed}
+use Rattle.steps.specs.OneStep.{Write, writeOf, Stepped}
+use Rattle.steps.specs.Writes.{stood, Ran, through, failed}
 use Rattle.rules.specs.Files.{holds, isBlank, sweepFrom, sweepWrites}
-use Rattle.rules.proofs.Plans.{stood-append, length-stood, ran-none, ran-one, ran_then, ran-cut, ran-as}
+use Rattle.steps.proofs.Plans.{stood-append, length-stood, ran-none, ran-one, ran_then, ran-cut, ran-as}
 use Rattle.opening.specs.Sweeps.{sweepAt}
 use Rattle.opening.proofs.Marked.{marked-is}
 
 -- ---- one slot
--- a slot of the device can be read while the power is on
-pub read-gives : (s : Slots) (on : Bool) (i : ℕ) (r : Answer) (out : Slot) → i < length s → on ≡ true → Reading s on i r out → out ≡ get_or s i []
-read-gives s on i (Ok u) out lt o f = f.2
-read-gives s on i (Err NoSuchSlot) out lt o f = absurd (omega (arith, f.0))
-read-gives s on i (Err NoPower) out lt o f = let p = f.0.1 in let z : ◌≡◌ {A = ℕ} 0 1 = cc in absurd (omega arith)
-
 pub kept-marked : (s : Slots) (on kept : Bool) (i : ℕ) (b : Slot) → kept ≡ true → on ≡ true → Ran s (sweepAt kept i b) (Ok tt) s on
 kept-marked s on true i b e o = ran-none s s on refl o
 kept-marked s on false i b e o = let z : ◌≡◌ {A = ℕ} 0 1 = cc in absurd (omega arith)

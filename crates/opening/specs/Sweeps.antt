@@ -3,7 +3,7 @@ use Rattle.std.specs.Prelude.{◌≡◌, ℕ, Bool, cond, ◌||◌, List, [], �
 use Rattle.device.specs.Effects.{Slot, Slots, blank}
 use Rattle.fault.specs.declared.Halt.{Halt}
 use Rattle.fault.specs.declared.Step.TheVariants.{Sweep}
-use Rattle.rules.specs.Writes.{Write, writeOf}
+use Rattle.steps.specs.OneStep.{Write, writeOf}
 use Rattle.rules.specs.Files.{isBlank}
 use Rattle.rules.specs.Calls.{reopenVerdict}
 

@@ -1,24 +1,27 @@
 //! Making a tree and reopening it, over a device lent for the call.
+#![tactic(auto)]
+
 ghost use Rattle.std.specs.Prelude.{◌≡◌, ℕ, ◌+◌, ◌<◌, ◌≤◌, Bool, true, List, [], length, replicate, slice_index_or};
 ghost use Rattle.octets.specs.Buffers.{zeros};
 ghost use Rattle.marks.specs.Rows.{roomOf, isMarked};
 ghost use Rattle.chain.specs.Reading.{Link};
 ghost use Rattle.chain.specs.Listing.{markedAll};
 ghost use Rattle.tree.specs.Nodes.{treeLevels};
-ghost use Rattle.rules.specs.Writes.{Ran};
+ghost use Rattle.steps.specs.Writes.{Ran};
 ghost use Rattle.rules.specs.Files.{blankWrites, treeWrites, isBlank, sweepWrites};
 ghost use Rattle.rules.specs.Kits.{Kit};
 ghost use Rattle.rules.specs.Calls.{Making, Reopening};
 ghost use Rattle.opening.specs.Sweeps.{sweepAt, Admitted};
 
-use octets::{Wiped, clear};
 use chain::read_marking;
 use device::{ReadSlots, WriteSlots};
 use fault::{Halt, Step};
 use layout::{Head, NodeFields, encode_head, encode_node};
 use marks::{is_marked, room};
+use octets::{Wiped, clear};
 use refusal::Refusal;
-use rules::{restart, slot_count, write_at};
+use rules::slot_count;
+use steps::{read_at, restart, write_at};
 use tree::LEVELS;
 
 // Zeros to every slot.
@@ -110,13 +113,7 @@ fn sweep_slot<D: WriteSlots>(
     if is_marked(marks, index as usize) {
         return Ok(());
     }
-    if d.read(index as usize, slot).is_err() {
-        return Err(Halt {
-            refusal: Refusal::NoPower,
-            place: index as u32,
-            step: Some(Step::Read),
-        });
-    }
+    read_at(d, index, slot)?;
     if is_blank(slot) {
         return Ok(());
     }
@@ -144,11 +141,7 @@ fn admit<D: ReadSlots>(d: &D, marks: usize) -> Result<u16, Halt>
     ensures { Admitted treeLevels (D.ReadSlots.slots d.now) marks result }
 {
     if marks < room(d.count()) {
-        return Err(Halt {
-            refusal: Refusal::ShortBuffer,
-            place: 0,
-            step: None,
-        });
+        return Err(Halt::plain(Refusal::ShortBuffer));
     }
     slot_count(d)
 }

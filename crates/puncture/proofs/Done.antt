@@ -1,11 +1,10 @@
 -- A puncture put together from its writes.
 use Rattle.std.proofs.Common.{◌≡◌, ℕ, ◌-◌, ◌*◌, ◌<◌, ◌≤◌, Bool, true, false, ◌⊎◌, List, [], ◌∷◌, ◌++◌, length, get_or, Ok, Err, Result, sym, refl, ap, ◌∙◌, subst, inl, inr, append_assoc, arith}
-use Rattle.std.proofs.lemmas.List.{length-drop, length-replicate, get_or-set_other}
+use Rattle.std.proofs.lemmas.List.{length-replicate, get_or-set_other}
 use Rattle.octets.specs.Buffers.{zeros}
 use Rattle.device.specs.Effects.{Slot, Slots, blank}
 use Rattle.fault.specs.declared.Halt.{Halt}
 use Rattle.fault.specs.declared.Step.TheVariants.{NewRecord, Join, Erasure}
-use Rattle.layout.specs.Records.{value_of}
 use Rattle.tree.specs.declared.Node.{Node}
 use Rattle.tree.specs.Nodes.{rootNode, mostLevels, Above}
 use Rattle.tree.specs.Cover.{In}
@@ -19,10 +18,11 @@ use Rattle.chain.specs.declared.Found.{Found}
 use Rattle.chain.specs.Reading.{Link, slots_of}
 use Rattle.chain.specs.Listing.{first_slot, markedAll}
 use Rattle.rules.specs.Kits.{Kit, valueLength}
-use Rattle.rules.specs.Writes.{writeOf, Stepped, stood, Ran, through, failed}
+use Rattle.steps.specs.OneStep.{writeOf, Stepped}
+use Rattle.steps.specs.Writes.{stood, Ran, through, failed}
 use Rattle.rules.specs.Files.{relinked, entry, lastSlot, linksIn, recordOf, newWrites, joinWrite, eraseWrite, redeemWrites, FreeSlots, freeCount}
 use Rattle.rules.specs.Calls.{Sound, newLinks}
-use Rattle.rules.proofs.Plans.{stood-append, length-stood, ran-next, ran-cut, ran-as}
+use Rattle.steps.proofs.Plans.{stood-append, length-stood, ran-next, ran-cut, ran-as}
 use Rattle.puncture.specs.Laying.{openSlots, backward, value_at, linksFor, Able, Laid, all, cut}
 use Rattle.puncture.specs.Puncturing.{Given, Puncturing}
 use Rattle.puncture.proofs.Open.{Bounded, within, rises, backward-apart, backward-in, length-backward, open-count, chain-marked}

@@ -7,9 +7,10 @@ use Rattle.layout.specs.Records.{encodeNode}
 use Rattle.tree.specs.declared.Node.{Node}
 use Rattle.tree.specs.Nodes.{rootNode}
 use Rattle.marks.specs.Rows.{unmarked, first_of}
-use Rattle.rules.specs.Writes.{Write, writeOf, Stepped, Ran}
+use Rattle.steps.specs.OneStep.{Write, writeOf, Stepped}
+use Rattle.steps.specs.Writes.{Ran}
 use Rattle.rules.specs.Files.{entry, newWrites}
-use Rattle.rules.proofs.Plans.{ran-none, ran-next, ran-cut, ran-as}
+use Rattle.steps.proofs.Plans.{ran-none, ran-next, ran-cut, ran-as}
 use Rattle.puncture.specs.Laying.{openSlots, value_at, lastLinks, linksFor, Able, Laid, all, cut}
 use Rattle.puncture.proofs.Open.{First, first-is, none_left, left_over}
 

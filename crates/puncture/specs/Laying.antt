@@ -7,7 +7,7 @@ use Rattle.tree.specs.Nodes.{rootNode}
 use Rattle.marks.specs.Rows.{unmarked}
 use Rattle.chain.specs.Reading.{Link}
 use Rattle.rules.specs.Kits.{valueLength}
-use Rattle.rules.specs.Writes.{Ran}
+use Rattle.steps.specs.Writes.{Ran}
 use Rattle.rules.specs.Files.{entry, newWrites}
 
 -- the slots without a mark, beside the head's, in increasing order

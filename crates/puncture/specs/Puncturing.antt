@@ -10,7 +10,7 @@ use Rattle.chain.specs.declared.Found.{Found}
 use Rattle.chain.specs.Reading.{Link, fileOf, sound}
 use Rattle.chain.specs.Listing.{between, markedAll}
 use Rattle.rules.specs.Kits.{Kit, valueLength}
-use Rattle.rules.specs.Writes.{Ran}
+use Rattle.steps.specs.Writes.{Ran}
 use Rattle.rules.specs.Files.{lastSlot, redeemWrites, FreeSlots, freeCount}
 use Rattle.rules.specs.Calls.{Sound, newLinks}
 

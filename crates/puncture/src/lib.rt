@@ -1,47 +1,29 @@
 //! The writes of a redemption: the siblings on the way down to a number take the place of the record that covered it.
 //!
 //! New records go to free slots first; the join, one write, brings them in and takes the old record off; then its slot is zeroed.
+#![tactic(auto)]
+
 ghost use Rattle.std.specs.Prelude.{◌≡◌, ℕ, ◌^◌, ◌<◌, ◌≤◌, true, List, [], length, get_or, replicate, slice_index_or};
 ghost use Rattle.tree.specs.Nodes.{treeLevels, mostLevels, rootNode};
 ghost use Rattle.layout.specs.Records.{encodeNode};
 ghost use Rattle.fault.specs.declared.Step.TheVariants.{Join as JoinStep};
 ghost use Rattle.chain.specs.Reading.{Link};
-ghost use Rattle.chain.specs.Outcome.{Fetching};
 ghost use Rattle.rules.specs.Kits.{Kit};
-ghost use Rattle.rules.specs.Writes.{writeOf, Stepped};
+ghost use Rattle.steps.specs.OneStep.{writeOf, Stepped};
 ghost use Rattle.rules.specs.Files.{relinked};
 ghost use Rattle.rules.specs.Calls.{Sound};
 ghost use Rattle.puncture.specs.Laying.{openSlots, value_at, linksFor, Able, Laid};
 ghost use Rattle.puncture.specs.Puncturing.{Given, Puncturing};
 
-use octets::{Wiped, put_u16};
 use chain::Found;
-use device::{DeviceFault, ReadSlots, WriteSlots};
+use device::{ReadSlots, WriteSlots};
 use fault::{Halt, Step};
 use layout::{NodeFields, encode_node};
 use marks::first_unmarked;
+use octets::{Wiped, put_u16};
 use refusal::Refusal;
-use rules::write_at;
+use steps::{read_at, write_at};
 use tree::{LEVELS, Node, ROW};
-
-/// Reads a slot; the reason why it cannot be read carries the slot.
-pub fn read_at<D: ReadSlots>(d: &D, index: u16, slot: &mut [u8; 64]) -> Result<(), Halt>
-    ensures { Fetching (D.slots d.now) (D.powered d.now) index result slot.new }
-{
-    match d.read(index as usize, slot) {
-        Ok(()) => Ok(()),
-        Err(DeviceFault::NoSuchSlot) => Err(Halt {
-            refusal: Refusal::NoSuchSlot,
-            place: index as u32,
-            step: None,
-        }),
-        Err(DeviceFault::NoPower) => Err(Halt {
-            refusal: Refusal::NoPower,
-            place: index as u32,
-            step: Some(Step::Read),
-        }),
-    }
-}
 
 // Lays out the record of a node with value `k` of the row.
 fn lay_record(node: &Node, row: &[u8; 768], k: usize, next: u16, slot: &mut [u8; 64])
@@ -79,11 +61,7 @@ fn write_records<D: WriteSlots>(
     let mut left = nodes.len();
     while left > 0 {
         let Some(free) = first_unmarked(marks, from, count as usize) else {
-            return Err(Halt {
-                refusal: Refusal::NoFreeSlot,
-                place: 0,
-                step: None,
-            });
+            return Err(Halt::plain(Refusal::NoFreeSlot));
         };
         left -= 1;
         lay_record(&nodes[left], row, left, next, slot);
@@ -121,11 +99,7 @@ pub fn puncture<D: WriteSlots>(
     let guard = Wiped { pad: slot };
     let mut nodes = [Node { depth: 0, first: 0 }; ROW];
     let Some(many) = found.node.siblings(LEVELS, n, &mut nodes) else {
-        return Err(Halt {
-            refusal: Refusal::Spent,
-            place: n,
-            step: None,
-        });
+        return Err(Halt::at(Refusal::Spent, n));
     };
     let first = write_records(d, count, &nodes[0..many], row, marks, found.next, guard.pad)?;
     join(d, found.before, first, guard.pad)?;

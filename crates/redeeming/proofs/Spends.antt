@@ -22,7 +22,7 @@ use Rattle.chain.specs.Sound.{nodesOf, lastSlot as last_of}
 use Rattle.chain.proofs.Finds.{found_at, none-at}
 use Rattle.rules.specs.Kits.{Kit, headingLength}
 use Rattle.rules.specs.Tickets.{number_in, headingIn, sealedIn}
-use Rattle.rules.specs.Writes.{through, failed}
+use Rattle.steps.specs.Writes.{through, failed}
 use Rattle.rules.specs.Files.{lastSlot, freeCount}
 use Rattle.rules.specs.Calls.{Sound, Outcome, kept, slotsLeast, countFits, read_by, redeemable, redeemVerdict, Seals, Ready, Untouched, Redeeming, declined, spent, shut, strange, full, cut, opened}
 use Rattle.puncture.specs.Puncturing.{Lengthwise, Given, Puncturing}

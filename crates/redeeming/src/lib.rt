@@ -1,9 +1,10 @@
 //! Redeeming a ticket, over a device lent for the call.
 //!
 //! A state is given only once its number is spent on the device: all refusals come before the first write, and the answer after the last.
+#![tactic(auto)]
+
 ghost use Rattle.std.specs.Prelude.{◌≡◌, ◌<◌, ◌≤◌, Bool, List, length, Ok};
 ghost use Rattle.octets.specs.Buffers.{zeros};
-ghost use Rattle.fault.specs.Faults.{placed};
 ghost use Rattle.session.specs.Limits.{mostLength};
 ghost use Rattle.layout.specs.Records.{value_of};
 ghost use Rattle.tree.specs.Nodes.{treeLevels};
@@ -15,36 +16,26 @@ ghost use Rattle.rules.specs.Tickets.{nameIn, number_in, headingIn, sealedIn};
 ghost use Rattle.rules.specs.Calls.{Sound, sameBytes, redeemable, Redeeming, kept};
 ghost use Rattle.redeeming.specs.Steps.{roomy, ticketFits, Entering, passing, Surveying, Met, Derived, Unsealing, Spotted};
 
-use octets::{clear, get_u32, same_bytes};
 use chain::{Found, Survey, read_marking};
 use device::{ReadSlots, WriteSlots};
 use fault::Halt;
 use generator::{Generator, descend_keeping};
 use layout::Head;
 use marks::room;
-use puncture::{puncture, read_at};
+use octets::{clear, get_u32, same_bytes};
+use puncture::puncture;
 use refusal::Refusal;
 use rules::slot_count;
 use scratch::Scratch;
 use sealer::Sealer;
 use session::{RECORD_LEAST, RECORD_LIMIT, is_record};
+use steps::read_at;
 use tree::LEVELS;
 
 // The bytes of a key name, and of a ticket's heading: the name and the number.
 const NAME: usize = 16;
 
 const HEADING: usize = 20;
-
-// A refusal that speaks of a ticket number.
-fn of_number(refusal: Refusal, number: u32) -> Halt
-    ensures { result ≡ placed refusal number }
-{
-    Halt {
-        refusal,
-        place: number,
-        step: None,
-    }
-}
 
 // Whether buffers of so many bytes, for a state and for the marks, will do.
 fn is_roomy<D: ReadSlots>(d: &D, state: usize, marks: usize) -> bool
@@ -58,11 +49,7 @@ fn enter<D: ReadSlots>(d: &D, state: usize, marks: usize) -> Result<u16, Halt>
     ensures { Entering treeLevels (D.ReadSlots.slots d.now) state marks result }
 {
     if !is_roomy(d, state, marks) {
-        return Err(Halt {
-            refusal: Refusal::ShortBuffer,
-            place: 0,
-            step: None,
-        });
+        return Err(Halt::plain(Refusal::ShortBuffer));
     }
     slot_count(d)
 }
@@ -99,22 +86,14 @@ fn check_ticket(ticket: &[u8], head: &Head, overhead: usize) -> Result<(), Halt>
     ensures { (k : Kit) (f : Sound) → k.overhead ≡ overhead → f.0 ≡ head.now → redeemable k ticket.now (Ok f) ≡ passing result f }
 {
     if !ticket_fits(overhead, ticket.len()) {
-        return Err(Halt {
-            refusal: Refusal::TicketLength,
-            place: 0,
-            step: None,
-        });
+        return Err(Halt::plain(Refusal::TicketLength));
     }
     if !bears(ticket, &head.name) {
-        return Err(Halt {
-            refusal: Refusal::OtherName,
-            place: 0,
-            step: None,
-        });
+        return Err(Halt::plain(Refusal::OtherName));
     }
     let number = get_u32(ticket, NAME);
     if number >= head.issued {
-        return Err(of_number(Refusal::NotIssued, number));
+        return Err(Halt::at(Refusal::NotIssued, number));
     }
     Ok(())
 }
@@ -167,7 +146,7 @@ fn derive_key<D: ReadSlots, G: Generator>(
     copy_value(slot, key);
     match descend_keeping(g, LEVELS, &found.node, n, key, left, right, row) {
         Some(calls) => Ok(calls),
-        None => Err(of_number(Refusal::Spent, n)),
+        None => Err(Halt::at(Refusal::Spent, n)),
     }
 }
 
@@ -189,17 +168,13 @@ fn open_ticket<S: Sealer>(
         Ok(opened) => match opened {
             Some(length) => {
                 if !is_record(&state[0..length]) {
-                    return Err(of_number(Refusal::OpenedNotARecord, number));
+                    return Err(Halt::at(Refusal::OpenedNotARecord, number));
                 }
                 Ok(length)
             }
-            None => Err(of_number(Refusal::SealBroken, number)),
+            None => Err(Halt::at(Refusal::SealBroken, number)),
         },
-        Err(refusal) => Err(Halt {
-            refusal,
-            place: 0,
-            step: None,
-        }),
+        Err(refusal) => Err(Halt::plain(refusal)),
     }
 }
 
@@ -223,7 +198,7 @@ fn spend<D: WriteSlots, G: Generator, S: Sealer>(
     let calls = derive_key(d, g, found, number, scratch)?;
     let length = open_ticket(s, ticket, &scratch.key, state, &mut scratch.pad)?;
     if u32::from(count).saturating_sub(1).saturating_sub(records) < calls {
-        return Err(of_number(Refusal::NoFreeSlot, number));
+        return Err(Halt::at(Refusal::NoFreeSlot, number));
     }
     puncture(
         d,
@@ -260,7 +235,7 @@ fn redeem_in<D: WriteSlots, G: Generator, S: Sealer>(
         &mut scratch.slot,
     )?;
     let Some(found) = survey.found else {
-        return Err(of_number(Refusal::Spent, number_in(ticket)));
+        return Err(Halt::at(Refusal::Spent, number_in(ticket)));
     };
     spend(
         d,

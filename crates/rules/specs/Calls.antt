@@ -1,5 +1,5 @@
 -- What each call of a server does, on every input: the outcome, and what the buffers and the device then hold.
-use Rattle.std.specs.Prelude.{◌≡◌, ℕ, suc, ◌+◌, ◌-◌, ◌^◌, ◌<◌, ◌≤◌, Bool, true, false, cond, ◌&&◌, List, [], ◌∷◌, ◌++◌, length, Ok, Err, Result, ◌==◌, nat_le, nat_lt}
+use Rattle.std.specs.Prelude.{◌≡◌, ℕ, ◌+◌, ◌-◌, ◌^◌, ◌<◌, ◌≤◌, Bool, true, false, cond, ◌&&◌, List, [], ◌∷◌, ◌++◌, length, Ok, Err, Result, ◌==◌, nat_le, nat_lt}
 use Rattle.octets.specs.Buffers.{zeros, filled}
 use Rattle.refusal.specs.declared.Refusal.TheVariants.{ShortBuffer, SlotCount, NotARecord, BadHead, BadLink, Uncovered, Exhausted, TicketLength, OtherName, NotIssued, Spent, SealBroken, OpenedNotARecord, NoFreeSlot}
 use Rattle.fault.specs.declared.Halt.{Halt}
@@ -18,7 +18,7 @@ use Rattle.marks.specs.Rows.{roomOf}
 use Rattle.chain.specs.Reading.{Link, File, fileOf, badHead, badLink, uncovered, sound}
 use Rattle.rules.specs.Kits.{Kit}
 use Rattle.rules.specs.Tickets.{ticketOf, nameIn, number_in, headingIn, sealedIn, ticketLeast, ticketLongest, ticketMost}
-use Rattle.rules.specs.Writes.{Write, stood, CutShort}
+use Rattle.steps.specs.Writes.{stood, CutShort}
 use Rattle.rules.specs.Files.{issueWrite, linksIn, redeemWrites, FreeSlots, freeCount, makeWrites, sweepWrites}
 
 -- a file that was read: the head and the chain

@@ -1,16 +1,15 @@
 -- What the calls write: bytes of the head and of records, and which writes a call makes.
-use Rattle.std.specs.Prelude.{◌≡◌, ℕ, zero, suc, ◌+◌, ◌-◌, ◌<◌, Bool, true, false, cond, ◌&&◌, ◌||◌, List, [], ◌∷◌, ◌++◌, length, take, drop, ◌==◌, slice_index_or}
+use Rattle.std.specs.Prelude.{ℕ, zero, suc, ◌+◌, ◌-◌, ◌<◌, Bool, true, false, cond, ◌&&◌, ◌||◌, List, [], ◌∷◌, ◌++◌, length, take, drop, ◌==◌, slice_index_or}
 use Rattle.octets.specs.Fields.{bytes_of}
 use Rattle.device.specs.Effects.{Slot, Slots, blank}
 use Rattle.fault.specs.declared.Step.TheVariants.{Make, Head as HeadStep, NewRecord, Join, Erasure, Sweep}
 use Rattle.layout.specs.declared.Head.{Head}
-use Rattle.layout.specs.declared.NodeFields.{NodeFields}
 use Rattle.layout.specs.Records.{encodeHead, encodeNode}
 use Rattle.tree.specs.Values.{Valued}
 use Rattle.tree.specs.Cover.{In, Distinct}
 use Rattle.chain.specs.Reading.{Link, slots_of}
 use Rattle.rules.specs.Kits.{Kit}
-use Rattle.rules.specs.Writes.{Write}
+use Rattle.steps.specs.OneStep.{Write}
 
 -- the same slot leading on to the index i: the head's first index and a record's next index are its bytes 4 and 5
 abbrev pub relinked : ℕ → Slot → Slot

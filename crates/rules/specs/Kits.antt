@@ -1,5 +1,5 @@
 -- What a server is put together from, beside its device: a generator and a sealer, by their meanings.
-use Rattle.std.specs.Prelude.{◌≡◌, ℕ, ◌+◌, ◌<◌, ◌≤◌, List, length}
+use Rattle.std.specs.Prelude.{◌≡◌, ℕ, ◌+◌, ◌≤◌, List, length}
 use Rattle.session.specs.Limits.{mostLength}
 use Rattle.tree.specs.Values.{Expansion}
 

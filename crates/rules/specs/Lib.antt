@@ -1,4 +1,3 @@
-pub mod Writes
 pub mod Kits
 pub mod Tickets
 pub mod Files

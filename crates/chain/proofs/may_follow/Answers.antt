@@ -1,4 +1,4 @@
-use Rattle.std.proofs.Common.{◌≡◌, arith}
+use Rattle.std.proofs.Common.{arith}
 use Rattle.chain.proofs.Order.{follow-some}
 use Rattle.chain.proofs.may_follow.Goals as goal
 

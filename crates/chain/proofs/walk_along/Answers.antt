@@ -1,9 +1,8 @@
-use Rattle.std.proofs.Common.{◌≡◌, ℕ, suc, ◌+◌, ◌-◌, ◌^◌, ◌<◌, ◌≤◌, true, false, leb, [], length, get_or, Some, None, Ok, Err, sym, refl, ap, ◌∙◌, subst, arith}
+use Rattle.std.proofs.Common.{◌≡◌, ℕ, suc, ◌+◌, ◌^◌, ◌<◌, ◌≤◌, true, leb, [], length, get_or, None, Err, sym, ap, ◌∙◌, subst, arith}
 use Rattle.std.proofs.lemmas.Result.{err_from_is_err_and}
 use Rattle.std.proofs.lemmas.Bool.{and_parts, leb-true}
-use Rattle.layout.specs.Records.{node_of}
 use Rattle.tree.specs.Nodes.{nodeAt, IsNode}
-use Rattle.chain.specs.Reading.{walk, end_of, mayFollow}
+use Rattle.chain.specs.Reading.{walk, mayFollow}
 use Rattle.chain.specs.Listing.{tally_of, noneYet, row_of}
 use Rattle.chain.proofs.Order.{end-within, end_after, tested-node}
 use Rattle.chain.proofs.Walks.{laid}

@@ -1,4 +1,4 @@
-use Rattle.std.proofs.Common.{◌≡◌, ℕ, suc, ◌-◌, ◌^◌, length, None}
+use Rattle.std.proofs.Common.{◌≡◌, suc, ◌-◌, ◌^◌, length, None}
 use Rattle.chain.specs.Reading.{walk}
 use Rattle.chain.specs.Listing.{tally_of, noneYet, row_of}
 use Rattle.chain.proofs.Going.{Going}

@@ -15,7 +15,7 @@ returns-in_err-survey g c =
 
 pub returns-then-survey-ge-LEAVES : goal.returns-then-survey-ge-LEAVES
 returns-then-survey-ge-LEAVES g c =
-    exhausted _ _ _ _ _ _ c.in_ok-may_issue.ensures _ _ c.number.ensures c.number-2.ensures _ c.in_ok-survey.ensures.is c.if-survey-ge-LEAVES.true
+    rw c.plain.ensures (exhausted _ _ _ _ _ _ c.in_ok-may_issue.ensures _ _ c.number.ensures c.number-2.ensures _ c.in_ok-survey.ensures.is c.if-survey-ge-LEAVES.true)
 
 pub issue_found-requires : goal.issue_found-requires
 issue_found-requires g c =

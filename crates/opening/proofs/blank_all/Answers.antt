@@ -1,9 +1,10 @@
-use Rattle.std.proofs.Common.{◌≡◌, ◌<◌, length, sym, refl, arith}
+use Rattle.std.proofs.Common.{◌<◌, length, sym, refl, arith}
 use Rattle.std.proofs.lemmas.Result.{err_from_is_err_and}
 use Rattle.device.specs.Effects.{blank}
 use Rattle.fault.specs.declared.Step.TheVariants.{Make}
-use Rattle.rules.specs.Writes.{writeOf}
-use Rattle.rules.proofs.Plans.{ran-none, ran-next, ran-cut, ran-as, blank-more, blank-around}
+use Rattle.steps.specs.OneStep.{writeOf}
+use Rattle.steps.proofs.Plans.{ran-none, ran-next, ran-cut, ran-as}
+use Rattle.opening.proofs.Blanks.{blank-more, blank-around}
 use Rattle.opening.proofs.blank_all.Goals as goal
 
 pub loop-i-init : goal.loop-i-init

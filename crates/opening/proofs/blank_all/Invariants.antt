@@ -1,5 +1,5 @@
-use Rattle.std.proofs.Common.{◌≡◌, ◌≤◌, Ok}
-use Rattle.rules.specs.Writes.{Ran}
+use Rattle.std.proofs.Common.{Ok}
+use Rattle.steps.specs.Writes.{Ran}
 use Rattle.rules.specs.Files.{blankWrites}
 use Rattle.opening.proofs.blank_all.Given as goal
 

@@ -1,6 +1,5 @@
-use Rattle.std.proofs.Common.{◌≡◌, rules}
+use Rattle.std.proofs.Common.{◌≡◌}
 use Rattle.tree.specs.Nodes.{treeLevels}
-use Rattle.layout.specs.declared.Head.{Head}
 use Rattle.rules.specs.Files.{firstHead}
 use Rattle.opening.proofs.Made.{made-from}
 use Rattle.opening.proofs.make_on.Goals as goal

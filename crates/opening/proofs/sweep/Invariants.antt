@@ -3,7 +3,7 @@ use Rattle.octets.specs.Buffers.{zeros}
 use Rattle.marks.specs.Rows.{roomOf}
 use Rattle.chain.specs.Reading.{Link}
 use Rattle.chain.specs.Listing.{markedAll}
-use Rattle.rules.specs.Writes.{Ran}
+use Rattle.steps.specs.Writes.{Ran}
 use Rattle.opening.proofs.Swept.{sofar}
 use Rattle.opening.proofs.sweep.Given as goal
 

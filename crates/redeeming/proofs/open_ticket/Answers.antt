@@ -7,7 +7,7 @@ use Rattle.redeeming.proofs.open_ticket.Goals as goal
 pub returns-then-not-is_record : goal.returns-then-not-is_record
 returns-then-not-is_record g c = λ l.
     let t = c.args.ticket.now in
-    let e = c.of_number.ensures in
+    let e = c.at.ensures in
     rw e (opened-strange (g.S.Sealer.sealing c.args.s.now c.args.key.now) c.copy_from_slice.new.self (headingIn t) (take (length t - 20) (drop 20 t)) (sealedIn t) c.get_u32-number.result (number_in t) (length c.args.state.now) c.open.new.out
     c.copy_from_slice.ensures.after (take_rest t 20) c.get_u32-number.ensures c.in-Ok.opened c.in-Some.length c.in-Some.is c.in-Ok.ensures.opened (sym c.is_record.ensures.value ∙ c.if-not-is_record.true))
 
@@ -20,6 +20,6 @@ returns-else-not-is_record g c = λ l.
 pub returns-in-None : goal.returns-in-None
 returns-in-None g c = λ l.
     let t = c.args.ticket.now in
-    let e = c.of_number-in-None.ensures in
+    let e = c.at-in-None.ensures in
     rw e (opened-none (g.S.Sealer.sealing c.args.s.now c.args.key.now) c.copy_from_slice.new.self (headingIn t) (take (length t - 20) (drop 20 t)) (sealedIn t) c.get_u32-number.result (number_in t) (length c.args.state.now) c.open.new.out
     c.copy_from_slice.ensures.after (take_rest t 20) c.get_u32-number.ensures c.in-Ok.opened c.in-None.is c.in-Ok.ensures.opened)

@@ -4,7 +4,6 @@ use Rattle.refusal.specs.declared.Refusal.TheVariants.{Spent}
 use Rattle.fault.specs.Faults.{placed}
 use Rattle.tree.specs.Nodes.{treeLevels}
 use Rattle.rules.specs.Kits.{kitOf}
-use Rattle.rules.specs.Calls.{kept}
 use Rattle.redeeming.proofs.Spends.{not_entered, entered-apt, not-surveyed, has-heading, is-spent, spots, marks-as}
 use Rattle.redeeming.proofs.redeem_in.Goals as goal
 
@@ -26,7 +25,7 @@ returns-in_default g c =
     let a = entered-apt c.in_ok-count.ensures in
     let v = c.in_ok-survey.ensures k (sym c.number.ensures) (sym c.number-2.ensures) (sym c.overhead.ensures) a.some a.wide in
     let h = has-heading k treeLevels _ _ _ _ _ a v in
-    is-spent k treeLevels _ _ _ _ _ a v c.in_default.is (ap Err c.of_number.ensures ∙ ap (λ (n : ℕ). Err (placed Spent n)) (c.number_in.ensures h))
+    is-spent k treeLevels _ _ _ _ _ a v c.in_default.is (ap Err c.at.ensures ∙ ap (λ (n : ℕ). Err (placed Spent n)) (c.number_in.ensures h))
 
 pub spend-requires : goal.spend-requires
 spend-requires g c =

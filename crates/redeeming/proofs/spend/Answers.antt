@@ -18,7 +18,7 @@ pub returns-then-saturating_sub-calls : goal.returns-then-saturating_sub-calls
 returns-then-saturating_sub-calls g c = λ f front x back z.
     let m = met z c.get_u32-number.result c.get_u32-number.ensures (omega arith) in
     let lt : c.args.count - 1 - c.args.records < c.in_ok-calls.calls = omega arith in
-    let e = c.of_number.ensures in
+    let e = c.at.ensures in
     rw e (no_slot z c.get_u32-number.result c.get_u32-number.ensures _ _ _ (c.in_ok-calls.ensures x m) (c.in_ok-length.ensures z.large) lt)
 
 pub returns-in_err-puncture : goal.returns-in_err-puncture

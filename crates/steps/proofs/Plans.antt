@@ -1,11 +1,10 @@
 -- Writes one after another: how plans are put together from their parts.
-use Rattle.std.proofs.Common.{◌≡◌, ℕ, zero, suc, ◌+◌, ◌-◌, ◌<◌, ◌≤◌, Bool, true, false, ◌⊎◌, List, [], ◌∷◌, ◌++◌, length, take, drop, set, Ok, Err, Result, sym, refl, ap, ◌∙◌, subst, inl, inr, append_assoc, append-nil, add-suc, suc-add, zero-add, arith, length-set}
-use Rattle.std.proofs.lemmas.List.{length-append, take_at, take-append-le}
-use Rattle.device.specs.Effects.{Slots, blank}
+use Rattle.std.proofs.Common.{◌≡◌, ℕ, suc, ◌+◌, ◌<◌, ◌≤◌, Bool, true, ◌⊎◌, List, [], ◌∷◌, ◌++◌, length, take, set, Ok, Err, Result, sym, refl, ap, ◌∙◌, subst, inl, inr, append_assoc, add-suc, suc-add, zero-add, arith, length-set}
+use Rattle.std.proofs.lemmas.List.{length-append, take-append-le}
+use Rattle.device.specs.Effects.{Slots}
 use Rattle.fault.specs.declared.Halt.{Halt}
-use Rattle.fault.specs.declared.Step.TheVariants.{Make}
-use Rattle.rules.specs.Writes.{Write, writeOf, Stepped, stood, CutShort, Ran, through, failed}
-use Rattle.rules.specs.Files.{blankWrites}
+use Rattle.steps.specs.OneStep.{Write, Stepped}
+use Rattle.steps.specs.Writes.{stood, CutShort, Ran, through, failed}
 
 pub stood-append : (s : Slots) (ws vs : List Write) → stood s (ws ++ vs) ≡ stood (stood s ws) vs
 stood-append s [] vs = refl
@@ -22,11 +21,15 @@ ran-none s t on e o = through refl e o
 -- one write
 pub ran-one : (s t : Slots) (on on' : Bool) (w : Write) (r : Result (Unit {0}) Halt) → w.slot < length s → Stepped s on w r t on' → Ran s (w ∷ []) r t on'
 ran-one s t on on' w (Ok u) h d = through refl d.2 d.3
-ran-one s t on on' w (Err e) h (inl d) = absurd (omega (arith, d.0))
+ran-one s t on on' w (Err e) h (inl d) =
+    elim d.0 [
+      | inl k ↦ absurd (omega (arith, k.0))
+      | inr k ↦ failed 0 e refl (record { front = []; cut = w; back = []; are = refl; stand = inl refl; slots = d.1; halt = k.2 }) (d.2 ∙ k.1)
+    ]
 ran-one s t on on' w (Err e) h (inr d) =
-    elim d.2 [
-      | inl k ↦ failed 0 e refl (record { front = []; cut = w; back = []; are = refl; stand = inl refl; slots = k; halt = d.1 }) d.3
-      | inr k ↦ failed 1 e refl (record { front = []; cut = w; back = []; are = refl; stand = inr refl; slots = k; halt = d.1 }) d.3
+    elim d.3 [
+      | inl k ↦ failed 0 e refl (record { front = []; cut = w; back = []; are = refl; stand = inl refl; slots = k; halt = d.2 }) d.4
+      | inr k ↦ failed 1 e refl (record { front = []; cut = w; back = []; are = refl; stand = inr refl; slots = k; halt = d.2 }) d.4
     ]
 
 within : (m : ℕ) (ws front back : List Write) (w : Write) → ws ≡ front ++ (w ∷ back) → (m ≡ length front) ⊎ (m ≡ suc (length front)) → m ≤ length ws
@@ -90,16 +93,3 @@ ran-next {s = s} {t = t} {ws = ws} w a h d =
 -- the same slots and power under other names
 pub ran-as : {s t : Slots} {on : Bool} {ws vs : List Write} {r : Result (Unit {0}) Halt} → ws ≡ vs → Ran s ws r t on → Ran s vs r t on
 ran-as {s = s} {t = t} {on = on} {r = r} e a = subst (λ x. Ran s x r t on) e a
-
--- ---- zeros to every slot
-pub blank-split : (i a b : ℕ) → blankWrites i (a + b) ≡ blankWrites i a ++ blankWrites (i + a) b
-blank-split i zero b = ap (blankWrites i) (zero-add b) ∙ ap (λ j. blankWrites j b) (omega arith)
-blank-split i (suc a) b =
-    ap (blankWrites i) (suc-add a b) ∙ ap (λ x. writeOf i blank Make ∷ x) (blank-split (suc i) a b ∙ ap (λ j. blankWrites (suc i) a ++ blankWrites j b) (omega arith))
-
-pub blank-more : (n : ℕ) → blankWrites 0 (n + 1) ≡ blankWrites 0 n ++ (writeOf n blank Make ∷ [])
-blank-more n = blank-split 0 n 1 ∙ ap (λ j. blankWrites 0 n ++ (writeOf j blank Make ∷ [])) (zero-add n)
-
-pub blank-around : (n i : ℕ) → i < n → blankWrites 0 n ≡ (blankWrites 0 i ++ (writeOf i blank Make ∷ [])) ++ blankWrites (i + 1) (n - (i + 1))
-blank-around n i h =
-    ap (blankWrites 0) (omega arith) ∙ blank-split 0 (i + 1) (n - (i + 1)) ∙ ap (λ x. x ++ blankWrites (0 + (i + 1)) (n - (i + 1))) (blank-more i) ∙ ap (λ j. (blankWrites 0 i ++ (writeOf i blank Make ∷ [])) ++ blankWrites j (n - (i + 1))) (zero-add (i + 1))
