@@ -13,7 +13,7 @@ use Rattle.layout.specs.declared.Head.{Head}
 use Rattle.chain.specs.Reading.{Link, fileOf, sound}
 use Rattle.rules.specs.Kits.{Kit, valueLength, nameLength}
 use Rattle.rules.specs.Tickets.{number_in, headingIn, sealedIn}
-use Rattle.rules.specs.Writes.{stood}
+use Rattle.steps.specs.Writes.{stood}
 use Rattle.rules.specs.Files.{entry, makeWrites, sweepWrites}
 use Rattle.rules.specs.Calls.{Sound, countFits, slotsLeast, slotsMost, reopenVerdict, Making, Reopening}
 use Rattle.rules.specs.Books.{Given, Book, freshBook, issue, redeem, reopen, fed}

@@ -23,9 +23,10 @@ use Rattle.chain.specs.declared.Found.{Found}
 use Rattle.chain.proofs.Files.{to-sound}
 use Rattle.chain.proofs.Finds.{found_at, none-at}
 use Rattle.chain.proofs.Frees.{of-unmarked, free-are, free-count}
+use Rattle.rules.proofs.Counting.{finished}
 use Rattle.rules.specs.Kits.{Kit}
 use Rattle.rules.specs.Tickets.{nameIn, number_in, ticketLeast, ticketLongest, ticketMost}
-use Rattle.rules.specs.Writes.{stood}
+use Rattle.steps.specs.Writes.{stood}
 use Rattle.rules.specs.Files.{issueWrite, redeemWrites, makeWrites, sweepWrites, FreeSlots, freeCount}
 use Rattle.rules.specs.Calls.{Sound, readAs, read_by, countFits, sameBytes, Untouched, issuable, issueVerdict, issuedTicket, redeemable, redeemVerdict, Hit, Seals, newLinks, Ready, reopenVerdict, Making, Issuing, Redeeming, Reopening}
 use Rattle.rules.specs.Pasts.{isNoPower}
@@ -150,7 +151,7 @@ module _ (k : Kit) (d : ℕ) (s : Slots) (plain : List ℕ) (room marks : ℕ) w
         after = stood s (issueWrite s f.0 ∷ []);
         power = true;
         headed = true;
-        call = Issuing.given f l.0 e l.1 (subst (λ (z : Node). Covers d z f.0.issued) (sym l.2) y.2) refl refl refl refl refl;
+        call = Issuing.given f l.0 e l.1 (subst (λ (z : Node). Covers d z f.0.issued) (sym l.2) y.2) (finished d l.0.node f.0.issued (length T)) refl refl refl refl;
         uncut = uncut-ok _;
       }
 
@@ -228,7 +229,7 @@ module _ (k : Kit) (d : ℕ) (s : Slots) (ticket : List ℕ) (room marks : ℕ) 
             after = stood s (redeemWrites s front x back (newLinks k d x (number_in ticket) fs));
             power = true;
             joined = true;
-            call = Redeeming.opened f front x back plain fs hit seals ready refl refl refl refl refl;
+            call = Redeeming.opened f front x back plain fs hit seals ready refl refl refl (finished d x.node (number_in ticket) (length plain)) refl;
             uncut = uncut-ok _;
           }
 
