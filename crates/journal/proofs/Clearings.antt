@@ -1,107 +1,63 @@
 -- Clearing changes nothing that is shown, wherever it is cut.
-use Rattle.std.specs.Prelude.{◌≡◌, ℕ, ◌+◌, ◌-◌, ◌<◌, ◌≤◌, Bool, true, false, cond, ◌⊎◌, [], length, replicate, Some, None, Ok, Err, Option, ◌≢◌, slice_set, refl}
-use Rattle.std.proofs.Common.{sym, ap, ◌∙◌, subst, inl, inr, ⊎_elim, arith, length-set, get_or-set_same}
+use Rattle.std.proofs.Common.{◌≡◌, ℕ, ◌+◌, ◌<◌, ◌≤◌, cond, List, [], ◌∷◌, length, set, Some, None, Option, refl, arith, sym, ap, ◌∙◌, subst, ⊎_elim, get_or-set_same, set-set}
 use Rattle.std.proofs.Math.Seq.{set_out}
-use Rattle.std.proofs.lemmas.Bool.{cases_lt, lt-ltb, le-ltb, both_ways}
-use Rattle.device.specs.declared.DeviceFault.{DeviceFault}
-use Rattle.device.specs.Effects.{Slot, Slots, Answer, Tearing, blank}
-use Rattle.journal.specs.Layout.{mostSlots, markIn, copyIn, placesIn, unusedIn, pendingIn, shown, delivered, clearedOf, cleared}
-use Rattle.journal.specs.Steps.{Clearing}
-use Rattle.journal.proofs.Marks.{torn-clear}
-use Rattle.journal.proofs.Views.{length-places, view-none, view-some, mark-shown, slot-places, slot_kept, failed, used, failed-unused}
+use Rattle.std.proofs.lemmas.Bool.{cases_lt, lt-ltb, le-ltb}
+use Rattle.device.specs.Effects.{Slot, Slots, blank}
+use Rattle.journal.specs.Layout.{markIn, copyIn, placesIn, pendingIn, shown}
+use Rattle.journal.specs.Writes.{Write, writeOf, clearWritesOf, clearWrites, stood}
+use Rattle.journal.proofs.Views.{length-shown, length-placesIn, parts_of, slot_written, shown_raised, zeros_done, zeros_cut}
+use Rattle.journal.proofs.Runs.{AtEachCut, none, next}
 
-on-off : (p : Bool) → p ≡ true → p ≢ false
-on-off p a b = both_ways p b a
+pub clear_none : (s : Slots) → clearWritesOf None s ≡ []
+unfolding clearWritesOf
+clear_none s = refl
 
-pub delivered-in : (i : ℕ) (s : Slots) → i < length (placesIn s) → delivered i s ≡ slice_set s (i + 2) (copyIn s)
-delivered-in i s h = ap (λ v. cond v (slice_set s (i + 2) (copyIn s)) s) (lt-ltb i (length (placesIn s)) h)
+pub clear_in : (i : ℕ) (s : Slots) → i < length (shown s) → clearWritesOf (Some i) s ≡ writeOf (i + 2) (copyIn s) ∷ writeOf 0 blank ∷ []
+unfolding clearWritesOf
+clear_in i s h = ap (λ v. cond v (writeOf (i + 2) (copyIn s) ∷ writeOf 0 blank ∷ []) (writeOf 0 blank ∷ [])) (lt-ltb i (length (placesIn s)) (omega (arith, length-placesIn s, length-shown s)))
 
-pub delivered-out : (i : ℕ) (s : Slots) → length (placesIn s) ≤ i → delivered i s ≡ s
-delivered-out i s h = ap (λ v. cond v (slice_set s (i + 2) (copyIn s)) s) (le-ltb i (length (placesIn s)) h)
+pub clear_out : (i : ℕ) (s : Slots) → length (shown s) ≤ i → clearWritesOf (Some i) s ≡ writeOf 0 blank ∷ []
+unfolding clearWritesOf
+clear_out i s h = ap (λ v. cond v (writeOf (i + 2) (copyIn s) ∷ writeOf 0 blank ∷ []) (writeOf 0 blank ∷ [])) (le-ltb i (length (placesIn s)) (omega (arith, length-placesIn s, length-shown s)))
 
--- once the copy is delivered, each slot's own place holds what is shown
-record Delivered (s u : Slots) : Type 0 where
-  pub places : placesIn u ≡ shown s
-  pub same : shown u ≡ shown s
-  pub long : length u ≡ length s
-  pub unused : unusedIn u ≡ unusedIn s
+pub ruleset clearing = (clear_none, clear_in, clear_out)
+
+-- writes that change nothing that is shown, wherever they are cut, and leave a copy that stands for no slot
+pub record Settles (s : Slots) (ws : List Write) : Type 0 where
+  pub same : AtEachCut (λ t. shown t ≡ shown s) s ws
+  pub low : pendingIn (markIn (stood s ws)) ≡ None
+
+-- zeros to the mark u, where each slot's own place holds what is shown
+zeros_settle : (s u : Slots) → 2 < length u → shown u ≡ shown s → placesIn u ≡ shown s → AtEachCut (λ t. shown t ≡ shown s) u (writeOf 0 blank ∷ [])
+zeros_settle s u some same places = next (zeros_cut u (shown s) some places same) (none (zeros_done u (shown s) some places))
+
+zeros_low : (u : Slots) → 2 < length u → pendingIn (markIn (set u 0 blank)) ≡ None
+zeros_low u some = ap pendingIn (get_or-set_same u 0 blank [] (omega arith))
 
 module _ (s : Slots) (i : ℕ) (is : pendingIn (markIn s) ≡ Some i) (some : 2 < length s) where
-  was : shown s ≡ slice_set (placesIn s) i (copyIn s)
-  was = view-some _ i _ _ is
+  was : shown s ≡ set (placesIn s) i (copyIn s)
+  was = shown_raised i (parts_of s some) is
 
-  here : i < length (placesIn s) → Delivered s (slice_set s (i + 2) (copyIn s))
-  here h =
-      let low : i < mostSlots = omega (arith, length-places s) in
-      record {
-        places = slot-places s i (copyIn s) low ∙ sym was;
-        same = slot_kept s i (copyIn s) low is;
-        long = length-set s (i + 2) (copyIn s);
-        unused = used s (i + 2) (copyIn s) (omega arith);
-      }
+  settles_out : length (shown s) ≤ i → Settles s (writeOf 0 blank ∷ [])
+  settles_out h = record {
+    same = zeros_settle s s some refl (sym (was ∙ set_out (placesIn s) i (copyIn s) (omega (arith, length-placesIn s, length-shown s))));
+    low = zeros_low s some;
+  }
 
-  nowhere : length (placesIn s) ≤ i → Delivered s s
-  nowhere h = record { places = sym (was ∙ set_out (placesIn s) i (copyIn s) h); same = refl; long = refl; unused = refl }
+  settles_in : i < length (shown s) → Settles s (writeOf (i + 2) (copyIn s) ∷ writeOf 0 blank ∷ [])
+  settles_in h =
+      let at = λ (x : Slot). slot_written (parts_of s some) x i (omega (arith, length-shown s)) in
+      let kept = λ (x : Slot). shown_raised i (at x) is ∙ set-set (placesIn s) i x (copyIn s) ∙ sym was in
+      let x = copyIn s in
+      record { same = next (λ k. kept _) (zeros_settle s (set s (i + 2) x) (at x).long (kept x) ((at x).places ∙ sym was)); low = zeros_low (set s (i + 2) x) (at x).long }
 
-  all-delivered : Delivered s (delivered i s)
-  all-delivered =
-      let P : Slots → Type 0 = λ u. Delivered s u in
-      ⊎_elim (λ h. subst P (sym (delivered-in i s h)) (here h)) (λ h. subst P (sym (delivered-out i s h)) (nowhere h)) (cases_lt i (length (placesIn s)))
+settles_of : (s : Slots) (o : Option ℕ) → pendingIn (markIn s) ≡ o → 2 < length s → Settles s (clearWritesOf o s)
+settles_of s None e some = subst (Settles s) (sym (clear_none s)) (record { same = none refl; low = e })
+settles_of s (Some i) e some =
+    ⊎_elim
+    (λ h. subst (Settles s) (sym (clear_in i s h)) (settles_in s i e some h))
+    (λ h. subst (Settles s) (sym (clear_out i s h)) (settles_out s i e some h))
+    (cases_lt i (length (shown s)))
 
-  -- the copy's way to its slot is cut
-  pub cut-delivery : (on : Bool) (e : DeviceFault) (t : Slots) (on' : Bool) (c : Slot) → on ≡ true → i < length (placesIn s) → Tearing s on (i + 2) c (Err e) t on' → Clearing s on (Err e) t on'
-  cut-delivery on e t on' c was-on h d =
-      let low : i < mostSlots = omega (arith, length-places s) in
-      let f = failed s on (i + 2) c e t on' (omega (arith, length-places s)) d in (
-        f.off,
-        f.down,
-        elim f.left [
-          | inl k ↦ ap shown k.0
-          | inr k ↦ ap shown k.1.1 ∙ slot_kept s i _ low is
-        ],
-        λ off. absurd (on-off on was-on off),
-        failed-unused f (omega arith),
-      )
-
-  -- the mark's way to zeros, done or cut
-  pub end-clearing : (on p : Bool) (u : Slots) (a : Answer) (t : Slots) (on' : Bool) → on ≡ true → u ≡ delivered i s → Tearing u p 0 blank a t on' → Clearing s on a t on'
-  end-clearing on p u (Ok _) t on' was-on e d = (was-on, d.3, d.2 ∙ ap (λ y. slice_set y 0 blank) e ∙ ap (λ o. clearedOf o s) (sym is))
-  end-clearing on p u (Err x) t on' was-on e d =
-      let h = subst (λ (y : Slots). Delivered s y) (sym e) all-delivered in
-      let room : 0 < length u = omega (arith, h.long) in
-      let f = failed u p 0 blank x t on' room d in (
-        f.off,
-        f.down,
-        elim f.left [
-          | inl k ↦ ap shown k.0 ∙ h.same
-          | inr k ↦ elim (torn-clear k.1.0 (replicate 63 0) (markIn u)) [
-            | inl j ↦ ap shown k.1.1 ∙ ap (λ y. shown (slice_set u 0 y)) j ∙ mark-shown u (markIn u) room ∙ h.same
-            | inr j ↦ ap shown k.1.1 ∙ mark-shown u _ room ∙ view-none _ _ _ j ∙ h.places
-          ]
-        ],
-        λ off. absurd (on-off on was-on off),
-        failed-unused f (omega arith) ∙ h.unused,
-      )
-
--- what clearing leaves shows the same slots, and its copy stands for none
-pub record Settled (s u : Slots) : Type 0 where
-  pub same : shown u ≡ shown s
-  pub none : pendingIn (markIn u) ≡ None
-  pub long : length u ≡ length s
-  pub unused : unusedIn u ≡ unusedIn s
-
-settled-of : (s : Slots) (o : Option ℕ) → pendingIn (markIn s) ≡ o → 2 < length s → Settled s (clearedOf o s)
-settled-of s None e some = record { same = refl; none = e; long = refl; unused = refl }
-settled-of s (Some i) e some =
-    let u : Slots = delivered i s in
-    let h = all-delivered s i e some in
-    let room : 0 < length u = omega (arith, h.long) in
-    record {
-      same = mark-shown u blank room ∙ view-none _ _ _ refl ∙ h.places;
-      none = ap pendingIn (get_or-set_same u 0 blank [] room);
-      long = length-set u 0 blank ∙ h.long;
-      unused = used u 0 blank (omega arith) ∙ h.unused;
-    }
-
-pub settled : (s : Slots) → 2 < length s → Settled s (cleared s)
-settled s some = settled-of s (pendingIn (markIn s)) refl some
+pub settles : (s : Slots) → 2 < length s → Settles s (clearWrites s)
+settles s some = settles_of s (pendingIn (markIn s)) refl some

@@ -1,5 +1,7 @@
 pub mod Marks
 pub mod Views
+pub mod Runs
 pub mod Clearings
 pub mod Placings
+pub mod Readings
 pub mod Wholes

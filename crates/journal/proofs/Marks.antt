@@ -5,20 +5,20 @@ use Rattle.std.proofs.lemmas.List.{take-append-drop}
 use Rattle.device.specs.Effects.{Slot, torn}
 use Rattle.journal.specs.Layout.{mark_of, pendingIn}
 
-pub raised-target : (i : ℕ) → pendingIn (mark_of 1 i) ≡ Some i
-raised-target i = ap Some (omega arith)
+pub pendingIn-raised : (i : ℕ) → pendingIn (mark_of 1 i) ≡ Some i
+pendingIn-raised i = ap Some (omega arith)
 
 -- a mark with no flag over one whose copy stands for none: it still stands for none
-pub torn-low : (m : ℕ) (rest : List ℕ) (old : Slot) → pendingIn old ≡ None → pendingIn (torn m old (0 ∷ rest)) ≡ None
-torn-low zero rest old e = e
-torn-low (suc m) rest old e = refl
+pub torn_low : (m : ℕ) (rest : List ℕ) (old : Slot) → pendingIn old ≡ None → pendingIn (torn m old (0 ∷ rest)) ≡ None
+torn_low zero rest old e = e
+torn_low (suc m) rest old e = refl
 
 -- the flag alone over the same mark without it: the old mark or the new one
-pub torn-raise : (m : ℕ) (rest : List ℕ) → (torn m (0 ∷ rest) (1 ∷ rest) ≡ 0 ∷ rest) ⊎ (torn m (0 ∷ rest) (1 ∷ rest) ≡ 1 ∷ rest)
-torn-raise zero rest = inl refl
-torn-raise (suc m) rest = inr (ap (λ t. 1 ∷ t) (take-append-drop m rest))
+pub torn_raise : (m : ℕ) (rest : List ℕ) → (torn m (0 ∷ rest) (1 ∷ rest) ≡ 0 ∷ rest) ⊎ (torn m (0 ∷ rest) (1 ∷ rest) ≡ 1 ∷ rest)
+torn_raise zero rest = inl refl
+torn_raise (suc m) rest = inr (ap (λ t. 1 ∷ t) (take-append-drop m rest))
 
 -- a mark with no flag over any other: the old mark, or one whose copy stands for none
-pub torn-clear : (m : ℕ) (rest : List ℕ) (old : Slot) → (torn m old (0 ∷ rest) ≡ old) ⊎ (pendingIn (torn m old (0 ∷ rest)) ≡ None)
-torn-clear zero rest old = inl refl
-torn-clear (suc m) rest old = inr refl
+pub torn_clear : (m : ℕ) (rest : List ℕ) (old : Slot) → (torn m old (0 ∷ rest) ≡ old) ⊎ (pendingIn (torn m old (0 ∷ rest)) ≡ None)
+torn_clear zero rest old = inl refl
+torn_clear (suc m) rest old = inr refl

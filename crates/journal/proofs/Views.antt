@@ -1,101 +1,95 @@
--- What each write below does to the slots that a journal shows.
-use Rattle.std.specs.Prelude.{◌≡◌, ℕ, ◌+◌, ◌-◌, ◌<◌, min, Bool, true, false, ◌⊎◌, [], length, get_or, take, drop, set, Some, None, Err, Option, ◌≢◌, slice_index_or, slice_set, refl}
-use Rattle.std.proofs.Common.{sym, ap, ◌∙◌, inl, inr, add_comm, arith, length-set, length-take, length-drop, get_or-set_same, get_or-set_other, get_or-take, get_or-drop, set-set, drop-set-lt}
+-- What a journal shows, and how it follows from the mark, the slots in their own places and the copy.
+use Rattle.std.specs.Prelude.{◌≡◌, ℕ, ◌+◌, ◌-◌, ◌<◌, min, [], length, get_or, take, drop, set, Some, None, Option, ◌≢◌, replicate, refl}
+use Rattle.std.proofs.Common.{sym, ap, ◌∙◌, inl, inr, add_comm, arith, length-set, length-take, length-drop, get_or-set_same, get_or-set_other, get_or-take, get_or-drop, drop-set-lt}
 use Rattle.std.proofs.Math.Seq.{take-set-lt}
 use Rattle.std.proofs.lemmas.List.{drop-set-add}
-use Rattle.device.specs.declared.DeviceFault.{DeviceFault}
-use Rattle.device.specs.declared.DeviceFault.TheVariants.{NoSuchSlot, NoPower}
-use Rattle.device.specs.Effects.{Slot, Slots, Tearing, torn}
-use Rattle.journal.specs.Layout.{mostSlots, markIn, copyIn, placesIn, unusedIn, pendingIn, view, shown}
-
--- the view
+use Rattle.device.specs.Effects.{Slot, Slots, torn, blank}
+use Rattle.journal.specs.Layout.{mostSlots, markIn, copyIn, placesIn, pendingIn, view, shown}
+use Rattle.journal.proofs.Marks.{torn_clear}
 
 length-view : (o : Option ℕ) (b : Slots) (c : Slot) → length (view o b c) ≡ length b
 unfolding view
 length-view None b c = refl
 length-view (Some i) b c = length-set b i c
 
-pub length-places : (s : Slots) → length (placesIn s) ≡ min mostSlots (length s - 2)
-length-places s = simp (length-take, length-drop)
+pub length-placesIn : (s : Slots) → length (placesIn s) ≡ min mostSlots (length s - 2)
+length-placesIn s = simp (length-take, length-drop)
 
 pub length-shown : (s : Slots) → length (shown s) ≡ min mostSlots (length s - 2)
-length-shown s = length-view (pendingIn (markIn s)) (placesIn s) (copyIn s) ∙ length-places s
+length-shown s = length-view (pendingIn (markIn s)) (placesIn s) (copyIn s) ∙ length-placesIn s
 
-pub view-none : (o : Option ℕ) (b : Slots) (c : Slot) → o ≡ None → view o b c ≡ b
+pub ruleset lengths = (length-shown, length-placesIn)
+
+view-None : (o : Option ℕ) (b : Slots) (c : Slot) → o ≡ None → view o b c ≡ b
 unfolding view
-view-none o b c e = ap (λ x. view x b c) e
+view-None o b c e = ap (λ x. view x b c) e
 
-pub view-some : (o : Option ℕ) (i : ℕ) (b : Slots) (c : Slot) → o ≡ Some i → view o b c ≡ slice_set b i c
+pub view-Some : (o : Option ℕ) (i : ℕ) (b : Slots) (c : Slot) → o ≡ Some i → view o b c ≡ set b i c
 unfolding view
-view-some o i b c e = ap (λ x. view x b c) e
+view-Some o i b c e = ap (λ x. view x b c) e
 
-pub view-other : (o : Option ℕ) (i : ℕ) (b : Slots) (c : Slot) → (o ≢ Some i) → slice_index_or (view o b c) i [] ≡ slice_index_or b i []
+pub view_other : (o : Option ℕ) (i : ℕ) (b : Slots) (c : Slot) → (o ≢ Some i) → get_or (view o b c) i [] ≡ get_or b i []
 unfolding view
-view-other None i b c h = refl
-view-other (Some j) i b c h = get_or-set_other b j i c [] (λ e. h (ap Some (sym e)))
+view_other None i b c h = refl
+view_other (Some j) i b c h = get_or-set_other b j i c [] (λ e. h (ap Some (sym e)))
 
-pub place_at : (s : Slots) (i : ℕ) → i < mostSlots → slice_index_or (placesIn s) i [] ≡ slice_index_or s (i + 2) []
-place_at s i h = get_or-take mostSlots (drop 2 s) i [] h ∙ get_or-drop 2 s i [] ∙ ap (λ k. get_or s k []) (add_comm 2 i)
+pub get_or-placesIn : (s : Slots) (i : ℕ) → i < mostSlots → get_or (placesIn s) i [] ≡ get_or s (i + 2) []
+get_or-placesIn s i h = get_or-take mostSlots (drop 2 s) i [] h ∙ get_or-drop 2 s i [] ∙ ap (λ k. get_or s k []) (add_comm 2 i)
 
--- a write to the copy
+-- ---- the slots below by their parts
+pub record Parts (s : Slots) (m : Slot) (b : Slots) (c : Slot) : Type 0 where
+  pub mark : markIn s ≡ m
+  pub places : placesIn s ≡ b
+  pub copy : copyIn s ≡ c
+  pub long : 2 < length s
 
-pub copy-mark : (s : Slots) (x : Slot) → markIn (slice_set s 1 x) ≡ markIn s
-copy-mark s x = get_or-set_other s 1 0 x [] (λ e. omega arith)
+pub parts_of : (s : Slots) → 2 < length s → Parts s (markIn s) (placesIn s) (copyIn s)
+parts_of s h = record { mark = refl; places = refl; copy = refl; long = h }
 
-pub copy_places : (s : Slots) (x : Slot) → placesIn (slice_set s 1 x) ≡ placesIn s
-copy_places s x = ap (take mostSlots) (drop-set-lt 2 s 1 x (omega arith))
+-- a write to each
+module _ {s : Slots} {m : Slot} {b : Slots} {c : Slot} (p : Parts s m b c) (x : Slot) where
+  pub mark_written : Parts (set s 0 x) x b c
+  mark_written = record {
+    mark = get_or-set_same s 0 x [] (omega (arith, p.long));
+    places = ap (take mostSlots) (drop-set-lt 2 s 0 x (omega arith)) ∙ p.places;
+    copy = get_or-set_other s 0 1 x [] (λ e. omega arith) ∙ p.copy;
+    long = omega (arith, p.long, length-set s 0 x);
+  }
 
--- a write to the mark
+  pub copy_written : Parts (set s 1 x) m b x
+  copy_written = record {
+    mark = get_or-set_other s 1 0 x [] (λ e. omega arith) ∙ p.mark;
+    places = ap (take mostSlots) (drop-set-lt 2 s 1 x (omega arith)) ∙ p.places;
+    copy = get_or-set_same s 1 x [] (omega (arith, p.long));
+    long = omega (arith, p.long, length-set s 1 x);
+  }
 
-pub mark-places : (s : Slots) (x : Slot) → placesIn (slice_set s 0 x) ≡ placesIn s
-mark-places s x = ap (take mostSlots) (drop-set-lt 2 s 0 x (omega arith))
+  pub slot_written : (i : ℕ) → i < mostSlots → Parts (set s (i + 2) x) m (set b i x) c
+  slot_written i h = record {
+    mark = get_or-set_other s (i + 2) 0 x [] (λ e. omega arith) ∙ p.mark;
+    places = ap (λ k. take mostSlots (drop 2 (set s k x))) (add_comm i 2) ∙ ap (take mostSlots) (drop-set-add 2 s i x) ∙ take-set-lt mostSlots (drop 2 s) i x h ∙ ap (λ y. set y i x) p.places;
+    copy = get_or-set_other s (i + 2) 1 x [] (λ e. omega arith) ∙ p.copy;
+    long = omega (arith, p.long, length-set s (i + 2) x);
+  }
 
-pub mark-copy : (s : Slots) (x : Slot) → copyIn (slice_set s 0 x) ≡ copyIn s
-mark-copy s x = get_or-set_other s 0 1 x [] (λ e. omega arith)
+shown-view : {s : Slots} {m : Slot} {b : Slots} {c : Slot} → Parts s m b c → shown s ≡ view (pendingIn m) b c
+shown-view p = let m = p.mark in let b = p.places in let c = p.copy in cc
 
-pub mark-shown : (s : Slots) (x : Slot) → 0 < length s → shown (slice_set s 0 x) ≡ view (pendingIn x) (placesIn s) (copyIn s)
-mark-shown s x h =
-    let m : markIn (slice_set s 0 x) ≡ x = get_or-set_same s 0 x [] h in
-    let b = mark-places s x in
-    let c = mark-copy s x in
-    cc
+pub shown_low : {s : Slots} {m : Slot} {b : Slots} {c : Slot} → Parts s m b c → pendingIn m ≡ None → shown s ≡ b
+shown_low {m = m} {b = b} {c = c} p e = shown-view p ∙ view-None (pendingIn m) b c e
 
--- a write to a slot's own place
+pub shown_raised : {s : Slots} {m : Slot} {b : Slots} {c : Slot} (i : ℕ) → Parts s m b c → pendingIn m ≡ Some i → shown s ≡ set b i c
+shown_raised {m = m} {b = b} {c = c} i p e = shown-view p ∙ view-Some (pendingIn m) i b c e
 
-module _ (s : Slots) (i : ℕ) (x : Slot) where
-  pub slot-mark : markIn (slice_set s (i + 2) x) ≡ markIn s
-  slot-mark = get_or-set_other s (i + 2) 0 x [] (λ e. omega arith)
+-- ---- zeros to the mark, where each slot's own place holds what is shown: that stays, wherever they are cut
+module _ (s v : Slots) (some : 2 < length s) (places : placesIn s ≡ v) where
+  pub zeros_done : shown (set s 0 blank) ≡ v
+  zeros_done = shown_low (mark_written (parts_of s some) blank) refl ∙ places
 
-  pub slot-copy : copyIn (slice_set s (i + 2) x) ≡ copyIn s
-  slot-copy = get_or-set_other s (i + 2) 1 x [] (λ e. omega arith)
-
-  pub slot-places : i < mostSlots → placesIn (slice_set s (i + 2) x) ≡ slice_set (placesIn s) i x
-  slot-places h = ap (λ k. take mostSlots (drop 2 (slice_set s k x))) (add_comm i 2) ∙ ap (take mostSlots) (drop-set-add 2 s i x) ∙ take-set-lt mostSlots (drop 2 s) i x h
-
-  -- where the copy stands for that slot, nothing changes
-  pub slot_kept : i < mostSlots → pendingIn (markIn s) ≡ Some i → shown (slice_set s (i + 2) x) ≡ shown s
-  slot_kept h e =
-      let a : shown (slice_set s (i + 2) x) ≡ set (placesIn (slice_set s (i + 2) x)) i (copyIn (slice_set s (i + 2) x)) = view-some _ i _ _ (ap pendingIn slot-mark ∙ e) in
-      let b : shown s ≡ set (placesIn s) i (copyIn s) = view-some _ i _ _ e in
-      let d = slot-places h in
-      let f = slot-copy in
-      let k = set-set (placesIn s) i x (copyIn s) in
-      cc
-
--- a write below that failed: the power is gone, and the slot is torn or as it was
-pub record Failed (s : Slots) (on : Bool) (k : ℕ) (b : Slot) (e : DeviceFault) (t : Slots) (on' : Bool) : Type 0 where
-  pub off : e ≡ NoPower
-  pub down : on' ≡ false
-  pub left : ((t ≡ s) × (on ≡ false)) ⊎ ((on ≡ true) × ((m : ℕ) × (t ≡ slice_set s k (torn m (slice_index_or s k []) b))))
-
-pub failed : (s : Slots) (on : Bool) (k : ℕ) (b : Slot) (e : DeviceFault) (t : Slots) (on' : Bool) → k < length s → Tearing s on k b (Err e) t on' → Failed s on k b e t on'
-failed s on k b NoSuchSlot t on' h (inl r) = absurd (omega (arith, r.0))
-failed s on k b NoPower t on' h (inl r) = record { off = refl; down = r.2 ∙ r.0.1; left = inl (r.1, r.0.1) }
-failed s on k b e t on' h (inr r) = record { off = r.0; down = r.4; left = inr (r.2, (r.3.0, r.3.2)) }
-
--- a write below to a place that the journal uses
-pub used : (s : Slots) (k : ℕ) (x : Slot) → k < 2 + mostSlots → unusedIn (slice_set s k x) ≡ unusedIn s
-used s k x h = drop-set-lt (2 + mostSlots) s k x h
-
-pub failed-unused : {s : Slots} {on : Bool} {k : ℕ} {b : Slot} {e : DeviceFault} {t : Slots} {on' : Bool} → Failed s on k b e t on' → k < 2 + mostSlots → unusedIn t ≡ unusedIn s
-failed-unused {s} {k = k} f h = elim f.left [ inl r ↦ ap unusedIn r.0 | inr r ↦ ap unusedIn r.1.1 ∙ used s k _ h ]
+  pub zeros_cut : shown s ≡ v → (k : ℕ) → shown (set s 0 (torn k (markIn s) blank)) ≡ v
+  zeros_cut same k =
+      let p = mark_written (parts_of s some) (torn k (markIn s) blank) in
+      elim (torn_clear k (replicate 63 0) (markIn s)) [
+        | inl j ↦ shown-view p ∙ ap (λ y. view (pendingIn y) (placesIn s) (copyIn s)) j ∙ sym (shown-view (parts_of s some)) ∙ same
+        | inr j ↦ shown_low p j ∙ places
+      ]

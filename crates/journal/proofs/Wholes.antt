@@ -1,75 +1,88 @@
--- The journal's calls mean what a device of whole writes means.
-use Rattle.std.specs.Prelude.{◌≡◌, ℕ, ◌+◌, ◌-◌, ◌<◌, Bool, cond, ◌⊎◌, [], length, get_or, set, Some, None, Ok, Err, Option, ◌≢◌, slice_index_or, slice_set, refl}
-use Rattle.std.proofs.Common.{sym, ap, ◌∙◌, subst, inl, inr, ⊎_elim, arith, length-set, get_or-set_same, get_or-set_other}
-use Rattle.std.proofs.lemmas.Bool.{cases_eq, lt-ltb, le-ltb, both_ways}
-use Rattle.device.specs.declared.DeviceFault.TheVariants.{NoSuchSlot, NoPower}
-use Rattle.device.specs.Effects.{Slot, Slots, Answer, Reading, Writing, Restarting, blank}
-use Rattle.journal.specs.Layout.{mostSlots, markIn, copyIn, placesIn, unusedIn, pendingIn, view, shown, cleared, restored}
-use Rattle.journal.specs.Steps.{Clearing, Placing, WritingBelow, RestartingBelow}
-use Rattle.journal.proofs.Views.{length-places, length-shown, view-none, view-some, view-other, place_at, copy_places, mark-shown, slot-places}
-use Rattle.journal.proofs.Clearings.{Settled, settled}
+-- What the writes below mean above, and that they leave the unused slots alone.
+use Rattle.std.proofs.Common.{◌≡◌, ℕ, ◌+◌, ◌<◌, Bool, true, false, cond, nat_lt, ◌⊎◌, List, [], ◌∷◌, length, set, Some, None, Ok, Err, Option, refl, arith, sym, ap, ◌∙◌, subst, inl, inr, ⊎_elim, drop-set-lt}
+use Rattle.std.proofs.lemmas.Bool.{cases_lt, lt-ltb, le-ltb}
+use Rattle.device.specs.Effects.{Slot, Slots, Answer, Writing, Restarting}
+use Rattle.journal.specs.Layout.{mostSlots, markIn, pendingIn, unusedIn, shown}
+use Rattle.journal.specs.Writes.{Write, clearWritesOf, clearWrites, placeWrites, slotWrites, restartWrites, stood, Ran, Within, WritingBelow, RestartingBelow}
+use Rattle.journal.proofs.Views.{length-shown}
+use Rattle.journal.proofs.Runs.{stood-append, AtEachCut, none, next, AtEachCut_done, AtEachCut_short, AtEachCut_ran, AtEachCut-append, AtEachCut_weaker, Within-append}
+use Rattle.journal.proofs.Clearings.{clear_none, clear_in, clear_out, Settles, settles}
+use Rattle.journal.proofs.Placings.{placing, placed}
 
--- reading
+-- ---- what is shown
+module _ (s : Slots) (i : ℕ) (b : Slot) (within : i < length (shown s)) where
+  cleared : Settles s (clearWrites s)
+  cleared = settles s (omega (arith, length-shown s))
 
-module _ (s : Slots) (on : Bool) (i : ℕ) (out : Slot) (within : i < length (shown s)) where
-  small : i < mostSlots
-  small = omega (arith, length-shown s)
+  same : shown (stood s (clearWrites s)) ≡ shown s
+  same = AtEachCut_done cleared.same
 
-  inside : i + 2 < length s
-  inside = omega (arith, length-shown s)
+  held : i < length (shown (stood s (clearWrites s)))
+  held = omega (arith, ap length same)
 
-  held : i < length (placesIn s)
-  held = omega (arith, length-shown s, length-places s)
+  written : shown (stood s (slotWrites s i b)) ≡ set (shown s) i b
+  written =
+      ap shown (stood-append s (clearWrites s) (placeWrites i b))
+      ∙ placed (stood s (clearWrites s)) i b held cleared.low
+      ∙ ap (λ y. set y i b) same
 
-  pub read-copy : (r : Answer) → pendingIn (markIn s) ≡ Some i → Reading s on 1 r out → Reading (shown s) on i r out
-  read-copy (Ok _) e d = (within, d.1, d.2 ∙ sym (ap (λ y. get_or y i []) (view-some (pendingIn (markIn s)) i (placesIn s) (copyIn s) e) ∙ get_or-set_same (placesIn s) i (copyIn s) [] held))
-  read-copy (Err NoSuchSlot) e d = absurd (omega (arith, inside, d.0))
-  read-copy (Err NoPower) e d = ((within, d.0.1), d.1)
+  writing : AtEachCut (λ t. (shown t ≡ shown s) ⊎ (shown t ≡ set (shown s) i b)) s (slotWrites s i b)
+  writing =
+      AtEachCut-append (clearWrites s) (placeWrites i b)
+      (AtEachCut_weaker (λ t e. inl e) cleared.same)
+      (AtEachCut_weaker (λ t e. elim e [ inl k ↦ inl (k ∙ same) | inr k ↦ inr (k ∙ ap (λ y. set y i b) same) ]) (placing (stood s (clearWrites s)) i b held cleared.low))
 
-  pub read-place : (r : Answer) → (pendingIn (markIn s) ≢ Some i) → Reading s on (i + 2) r out → Reading (shown s) on i r out
-  read-place (Ok _) e d = (within, d.1, d.2 ∙ sym (view-other (pendingIn (markIn s)) i (placesIn s) (copyIn s) e ∙ place_at s i small))
-  read-place (Err NoSuchSlot) e d = absurd (omega (arith, inside, d.0))
-  read-place (Err NoPower) e d = ((within, d.0.1), d.1)
+pub writing_means : (s : Slots) (on : Bool) (i : ℕ) (b : Slot) (r : Answer) (t : Slots) (on' : Bool) → WritingBelow s on i b r t on' → Writing (shown s) on i b r (shown t) on'
+writing_means s on i b (Ok _) t on' (h, o, (a, q)) = (h, o, ap shown a ∙ written s i b h, q)
+writing_means s on i b (Err e) t on' (inl (d, a, q)) = inl (d, ap shown a, q)
+writing_means s on i b (Err e) t on' (inr (h, o, (n, c, q))) = inr (n, h, o, AtEachCut_short (writing s i b h) c, q)
 
--- writing
+restarting : (s : Slots) → AtEachCut (λ t. shown t ≡ shown s) s (restartWrites s)
+restarting s =
+    ⊎_elim
+    (λ h. subst (AtEachCut _ s) (ap (λ v. cond v (clearWrites s) []) (sym (lt-ltb 0 (length (shown s)) h))) (settles s (omega (arith, length-shown s))).same)
+    (λ h. subst (AtEachCut _ s) (ap (λ v. cond v (clearWrites s) []) (sym (le-ltb 0 (length (shown s)) h))) (none refl))
+    (cases_lt 0 (length (shown s)))
 
-written-shown : (u : Slots) (i : ℕ) (b : Slot) → i < mostSlots → 0 < length u → pendingIn (markIn u) ≡ None → shown (slice_set (slice_set (slice_set u 1 b) (i + 2) b) 0 blank) ≡ slice_set (shown u) i b
-written-shown u i b small some none =
-    let x : Slots = set u 1 b in
-    let room : 0 < length (slice_set x (i + 2) b) = omega (arith, length-set x (i + 2) b, length-set u 1 b) in
-    mark-shown (slice_set x (i + 2) b) blank room
-    ∙ view-none _ _ _ refl
-    ∙ slot-places x i b small
-    ∙ ap (λ y. set y i b) (copy_places u b ∙ sym (view-none (pendingIn (markIn u)) (placesIn u) (copyIn u) none))
+pub restarting_means : (s : Slots) (r : Answer) (t : Slots) (on' : Bool) → RestartingBelow s r t on' → Restarting (shown s) r (shown t) on'
+restarting_means s (Ok _) t on' (a, q) = (ap shown a ∙ AtEachCut_done (restarting s), q)
+restarting_means s (Err e) t on' (inl (n, a, q)) = (n, ap shown a, q)
+restarting_means s (Err e) t on' (inr (n, c, q)) = (n, AtEachCut_short (restarting s) c, q)
 
-never : NoSuchSlot ≡ NoPower → ⊥
-never e = let z : ◌≡◌ {A = ℕ} 0 1 = cc in omega arith
+-- ---- what is not used
+within_clear : (o : Option ℕ) (s : Slots) → Within (2 + mostSlots) (clearWritesOf o s)
+within_clear None s = subst (λ ws. Within (2 + mostSlots) ws) (sym (clear_none s)) tt
+within_clear (Some i) s =
+    ⊎_elim
+    (λ h. subst (λ ws. Within (2 + mostSlots) ws) (sym (clear_in i s h)) (omega (arith, length-shown s), (omega arith, tt)))
+    (λ h. subst (λ ws. Within (2 + mostSlots) ws) (sym (clear_out i s h)) (omega arith, tt))
+    (cases_lt i (length (shown s)))
 
-module _ (s : Slots) (on : Bool) (i : ℕ) (b : Slot) (within : i < length (shown s)) where
-  some : 2 < length s
-  some = omega (arith, length-shown s)
+unused : (z s : Slots) (ws : List Write) → Within (2 + mostSlots) ws → unusedIn s ≡ z → AtEachCut (λ t. unusedIn t ≡ z) s ws
+unused z s [] h e = none e
+unused z s (w ∷ ws) h e =
+    let same = λ (x : Slot). drop-set-lt (2 + mostSlots) s w.slot x h.0 ∙ e in
+    next (λ m. same _) (unused z (set s w.slot w.bytes) ws h.1 (same w.bytes))
 
-  -- clearing was done
-  pub write-cleared : (u : Slots) (p : Bool) (a : Answer) (t : Slots) (on' : Bool) → Clearing s on (Ok tt) u p → Placing u p i b a t on' → Writing (shown s) on i b a (shown t) on' × WritingBelow s on i b a t
-  write-cleared u p (Ok _) t on' c d =
-      let h = subst (λ (y : Slots). Settled s y) (sym c.2) (settled s some) in
-      let new : shown t ≡ set (shown s) i b = ap shown d.2 ∙ written-shown u i b (omega (arith, length-shown s)) (omega (arith, some, h.long)) h.none ∙ ap (λ y. set y i b) h.same in
-      ((within, c.0, new, d.1), d.2 ∙ ap (λ y. set (slice_set (slice_set y 1 b) (i + 2) b) 0 blank) c.2)
-  write-cleared u p (Err NoSuchSlot) t on' c d = absurd (never d.0)
-  write-cleared u p (Err NoPower) t on' c d =
-      let h = subst (λ (y : Slots). Settled s y) (sym c.2) (settled s some) in
-      (inr (refl, within, c.0, elim d.2 [ inl k ↦ inl (k ∙ h.same) | inr k ↦ inr (k ∙ ap (λ y. set y i b) h.same) ], d.1), (λ k. absurd (both_ways on k.1 c.0), d.3 ∙ h.unused))
+ran_unused : (s : Slots) (ws : List Write) (r : Answer) (t : Slots) (on' : Bool) → Within (2 + mostSlots) ws → Ran s ws r t on' → unusedIn t ≡ unusedIn s
+ran_unused s ws r t on' h d = AtEachCut_ran r t on' (unused (unusedIn s) s ws h refl) d
 
--- restarting
+within_write : (s : Slots) (i : ℕ) (b : Slot) → i < length (shown s) → Within (2 + mostSlots) (slotWrites s i b)
+within_write s i b h =
+    let small : i < mostSlots = omega (arith, length-shown s) in
+    Within-append (2 + mostSlots) (clearWrites s) (placeWrites i b) (within_clear (pendingIn (markIn s)) s) (omega arith, (omega arith, (omega arith, (omega arith, (omega arith, tt)))))
 
-pub restored-none : (s : Slots) → length (shown s) ≡ 0 → restored s ≡ s
-restored-none s e = ap (λ v. cond v (cleared s) s) (le-ltb 0 (length (placesIn s)) (omega (arith, length-shown s, length-places s)))
+within_restart : (s : Slots) → Within (2 + mostSlots) (restartWrites s)
+within_restart s = elim (nat_lt 0 (length (shown s))) as (λ v. Within (2 + mostSlots) (cond v (clearWrites s) [])) [ true ↦ within_clear (pendingIn (markIn s)) s | false ↦ tt ]
 
-pub restored-some : (s : Slots) → 0 < length (shown s) → restored s ≡ cleared s
-restored-some s h = ap (λ v. cond v (cleared s) s) (lt-ltb 0 (length (placesIn s)) (omega (arith, length-shown s, length-places s)))
+pub writing_unused : (s : Slots) (on : Bool) (i : ℕ) (b : Slot) (r : Answer) (t : Slots) (on' : Bool) → WritingBelow s on i b r t on' → unusedIn t ≡ unusedIn s
+writing_unused s on i b (Ok u) t on' (h, _, d) = ran_unused s (slotWrites s i b) (Ok u) t on' (within_write s i b h) d
+writing_unused s on i b (Err e) t on' (inl d) = ap unusedIn d.1
+writing_unused s on i b (Err e) t on' (inr (h, _, d)) = ran_unused s (slotWrites s i b) (Err e) t on' (within_write s i b h) d
 
-pub restart-cleared : (s u : Slots) (p : Bool) (a : Answer) (t : Slots) (on' : Bool) → u ≡ s → 0 < length (shown s) → Clearing u p a t on' → Restarting (shown s) a (shown t) on' × RestartingBelow s a t
-restart-cleared s u p (Ok _) t on' e h d =
-    let k : t ≡ cleared s = d.2 ∙ ap cleared e in
-    ((ap shown k ∙ (settled s (omega (arith, length-shown s))).same, d.1), k ∙ sym (restored-some s h))
-restart-cleared s u p (Err x) t on' e h d = ((d.0, d.2 ∙ ap shown e, d.1), (λ z. absurd (omega arith), d.4 ∙ ap unusedIn e))
+pub restarting_unused : (s : Slots) (r : Answer) (t : Slots) (on' : Bool) → RestartingBelow s r t on' → unusedIn t ≡ unusedIn s
+restarting_unused s (Ok u) t on' d = ran_unused s (restartWrites s) (Ok u) t on' (within_restart s) d
+restarting_unused s (Err e) t on' (inl d) = ap unusedIn d.1
+restarting_unused s (Err e) t on' (inr d) = ran_unused s (restartWrites s) (Err e) t on' (within_restart s) d
+
+pub ruleset meanings = (writing_means, restarting_means)

@@ -1,2 +1,2 @@
 pub mod Layout
-pub mod Steps
+pub mod Writes

@@ -3,10 +3,12 @@
 //! The lowest two slots below are the mark and the copy, and the journal's own lie after them. The mark's byte 0 is a flag and its
 //! bytes 1 and 2 are a target. Where the flag is 1 the copy stands for the target; a write raises the flag only once copy and target
 //! are in place, and lowers it once the slot itself is written. A tear of any one of these writes leaves the old slot or the new one.
-ghost use Rattle.std.specs.Prelude.{◌≡◌, ◌+◌, ◌<◌, ◌≤◌, length, Some, None, Decides};
+#![tactic(auto)]
+
+ghost use Rattle.std.specs.Prelude.{◌≡◌, ◌+◌, ◌<◌, ◌≤◌, true, false, length, map, Some, None, MatchResult};
 ghost use Rattle.device.specs.Effects.{Writing, Restarting, blank};
-ghost use Rattle.journal.specs.Layout.{shown, mostSlots, markIn, pendingIn};
-ghost use Rattle.journal.specs.Steps.{Clearing, Placing, WritingBelow, RestartingBelow};
+ghost use Rattle.journal.specs.Layout.{shown, copyIn, mostSlots, mark_of, markIn, pendingIn, unusedIn};
+ghost use Rattle.journal.specs.Writes.{writeOf, clearWritesOf, clearWrites, placeWrites, Within, Ran, WritingBelow, RestartingBelow};
 
 use device::{DeviceFault, ReadSlots, TearSlots, WriteSlots};
 
@@ -20,8 +22,13 @@ const COPY: usize = 1;
 
 const FIRST: usize = 2;
 
-// The flag of a mark whose copy stands for its target.
+// The flag of a mark whose copy stands for its target, and of any other.
 const RAISED: u8 = 1;
+
+const LOWERED: u8 = 0;
+
+// A write below: to which slot, and its bytes.
+type RawWrite<'a> = (usize, &'a [u8; 64]);
 
 /// A journal over the device `below`. The pad is for a copy on its way; it holds zeros outside the calls.
 pub struct Journal<D> {
@@ -50,7 +57,7 @@ impl<D> Journal<D> {
 }
 
 // The slot that a mark's copy stands for.
-fn pending(mark: &[u8; 64]) -> Option<usize>
+fn target_of(mark: &[u8; 64]) -> Option<usize>
     ensures { result ≡ pendingIn mark.now }
 {
     if mark[0] == RAISED {
@@ -60,74 +67,106 @@ fn pending(mark: &[u8; 64]) -> Option<usize>
     }
 }
 
-// Whether a mark's copy stands for a slot.
-fn stands_for(mark: &[u8; 64], index: usize) -> bool
-    ensures { Decides result (pendingIn mark.now ≡ Some index) }
+// The slot that the copy below stands for.
+fn pending<D: ReadSlots>(d: &D) -> Result<Option<usize>, DeviceFault>
+    requires { 2 < length (D.ReadSlots.slots d.now) }
+    ensures { MatchResult result (λ o. (D.ReadSlots.powered d.now ≡ true) × (o ≡ pendingIn (markIn (D.ReadSlots.slots d.now)))) (λ e. (e ≡ DeviceFault.NoPower) × (D.ReadSlots.powered d.now ≡ false)) }
 {
-    match pending(mark) {
-        Some(target) => target == index,
-        None => false,
-    }
+    let mut mark = [0; 64];
+    d.read(MARK, &mut mark)?;
+    Ok(target_of(&mark))
+}
+
+// A mark with a flag and a target.
+fn mark_with(flag: u8, target: usize) -> [u8; 64]
+    requires { target < mostSlots }
+    ensures { result ≡ mark_of flag target }
+{
+    let mut mark = [0; 64];
+    mark[0] = flag;
+    mark[1] = (target / 256) as u8;
+    mark[2] = (target % 256) as u8;
+    mark
 }
 
 // How many slots are shown over a device.
+#[tactic(auto, using(crate::proofs::Views::lengths))]
 fn shown_count<D: ReadSlots>(d: &D) -> usize
     ensures count { result ≡ length (shown (D.ReadSlots.slots d.now)) }
     ensures bound { (result ≤ mostSlots) × ((0 < result → result + 2 ≤ length (D.ReadSlots.slots d.now))) }
 {
-    let n = d.count();
-    if n < FIRST {
-        0
-    } else if n - FIRST < MOST_SLOTS {
-        n - FIRST
-    } else {
-        MOST_SLOTS
-    }
+    d.count().saturating_sub(FIRST).min(MOST_SLOTS)
 }
 
-// Clears a raised flag: the copy goes to its target, then the mark to zeros.
-fn clear<D: TearSlots>(d: &mut D, pad: &mut [u8; 64]) -> Result<(), DeviceFault>
-    requires { 2 < length (D.ReadSlots.slots d.old) }
-    ensures { Clearing (D.ReadSlots.slots d.old) (D.ReadSlots.powered d.old) result (D.ReadSlots.slots d.new) (D.ReadSlots.powered d.new) }
+// Makes writes below in their order, until the power fails at one.
+fn run<D: TearSlots>(d: &mut D, writes: &[RawWrite]) -> Result<(), DeviceFault>
+    requires on { D.ReadSlots.powered d.old ≡ true }
+    requires within { Within (length (D.ReadSlots.slots d.old)) (map (λ w. writeOf w.0 w.1.now) writes.now) }
+    ensures { Ran (D.ReadSlots.slots d.old) (map (λ w. writeOf w.0 w.1.now) writes.now) result (D.ReadSlots.slots d.new) (D.ReadSlots.powered d.new) }
 {
-    let mut mark = [0; 64];
-    d.read(MARK, &mut mark)?;
-    let Some(target) = pending(&mark) else {
-        return Ok(());
-    };
-    d.read(COPY, pad)?;
+    for (slot, bytes) in writes {
+        d.write(*slot, bytes)?;
+    }
+    Ok(())
+}
+
+// Clears a flag whose copy stands for a target: the copy goes there, then zeros to the mark.
+#[tactic(auto, using(crate::proofs::Clearings::clearing))]
+fn deliver<D: TearSlots>(d: &mut D, target: usize, copy: &[u8; 64]) -> Result<(), DeviceFault>
+    requires on { D.ReadSlots.powered d.old ≡ true }
+    requires copy { copy.now ≡ copyIn (D.ReadSlots.slots d.old) }
+    requires some { 2 < length (D.ReadSlots.slots d.old) }
+    ensures { Ran (D.ReadSlots.slots d.old) (clearWritesOf (Some target) (D.ReadSlots.slots d.old)) result (D.ReadSlots.slots d.new) (D.ReadSlots.powered d.new) }
+{
+    let zeros = [0; 64];
     if target < shown_count(d) {
-        d.write(target + FIRST, pad)?;
+        run(d, &[(target + FIRST, &*copy), (MARK, &zeros)])
+    } else {
+        run(d, &[(MARK, &zeros)])
     }
-    d.write(MARK, &[0; 64])
 }
 
-// Writes a slot in five steps, where no flag is raised.
+// Clears a raised flag, and leaves nothing in the pad.
+#[tactic(auto, using(crate::proofs::Clearings::clearing))]
+fn clear<D: TearSlots>(
+    d: &mut D,
+    pad: &mut [u8; 64],
+    pending: Option<usize>,
+) -> Result<(), DeviceFault>
+    requires on { D.ReadSlots.powered d.old ≡ true }
+    requires pending { pending ≡ pendingIn (markIn (D.ReadSlots.slots d.old)) }
+    requires some { 2 < length (D.ReadSlots.slots d.old) }
+    ensures step { Ran (D.ReadSlots.slots d.old) (clearWrites (D.ReadSlots.slots d.old)) result (D.ReadSlots.slots d.new) (D.ReadSlots.powered d.new) }
+    ensures wiped { pad.old ≡ blank → pad.new ≡ blank }
+{
+    match pending {
+        None => Ok(()),
+        Some(target) => {
+            d.read(COPY, pad)?;
+            let done = deliver(d, target, pad);
+            *pad = [0; 64];
+            done
+        }
+    }
+}
+
+// Puts bytes in a slot by five writes, where no flag is raised.
 fn place<D: TearSlots>(d: &mut D, index: usize, bytes: &[u8; 64]) -> Result<(), DeviceFault>
-    requires { (index + 2 < length (D.ReadSlots.slots d.old)) × ((index < mostSlots) × (pendingIn (markIn (D.ReadSlots.slots d.old)) ≡ None)) }
-    ensures { Placing (D.ReadSlots.slots d.old) (D.ReadSlots.powered d.old) index bytes.now result (D.ReadSlots.slots d.new) (D.ReadSlots.powered d.new) }
+    requires on { D.ReadSlots.powered d.old ≡ true }
+    requires within { (index + 2 < length (D.ReadSlots.slots d.old)) × (index < mostSlots) }
+    ensures { Ran (D.ReadSlots.slots d.old) (placeWrites index bytes.now) result (D.ReadSlots.slots d.new) (D.ReadSlots.powered d.new) }
 {
-    let mut mark = [0; 64];
-    mark[1] = (index / 256) as u8;
-    mark[2] = (index % 256) as u8;
-    d.write(COPY, bytes)?;
-    d.write(MARK, &mark)?;
-    mark[0] = RAISED;
-    d.write(MARK, &mark)?;
-    d.write(index + FIRST, bytes)?;
-    mark = [0; 64];
-    d.write(MARK, &mark)
-}
-
-// Clears, and leaves the pad blank on every way out.
-fn clear_wiped<D: TearSlots>(d: &mut D, pad: &mut [u8; 64]) -> Result<(), DeviceFault>
-    requires { 2 < length (D.ReadSlots.slots d.old) }
-    ensures step { Clearing (D.ReadSlots.slots d.old) (D.ReadSlots.powered d.old) result (D.ReadSlots.slots d.new) (D.ReadSlots.powered d.new) }
-    ensures wiped { pad.new ≡ blank }
-{
-    let done = clear(d, pad);
-    *pad = [0; 64];
-    done
+    let targeted = mark_with(LOWERED, index);
+    let raised = mark_with(RAISED, index);
+    let zeros = [0; 64];
+    let writes = [
+        (COPY, &*bytes),
+        (MARK, &targeted),
+        (MARK, &raised),
+        (index + FIRST, &*bytes),
+        (MARK, &zeros),
+    ];
+    run(d, &writes)
 }
 
 impl<D: ReadSlots> ReadSlots for Journal<D> {
@@ -139,14 +178,13 @@ impl<D: ReadSlots> ReadSlots for Journal<D> {
         shown_count(&self.below)
     }
 
+    #[tactic(auto, using(crate::proofs::Readings::reading))]
     fn read(&self, index: usize, out: &mut [u8; 64]) -> Result<(), DeviceFault> {
         *out = [0; 64];
         if index >= shown_count(&self.below) {
             return Err(DeviceFault::NoSuchSlot);
         }
-        let mut mark = [0; 64];
-        self.below.read(MARK, &mut mark)?;
-        if stands_for(&mark, index) {
+        if pending(&self.below)? == Some(index) {
             self.below.read(COPY, out)
         } else {
             self.below.read(index + FIRST, out)
@@ -154,30 +192,58 @@ impl<D: ReadSlots> ReadSlots for Journal<D> {
     }
 }
 
+// A write, and what it does below.
+#[tactic(auto, using(crate::proofs::Runs::steps))]
+fn write_below<D: TearSlots>(
+    d: &mut D,
+    pad: &mut [u8; 64],
+    index: usize,
+    bytes: &[u8; 64],
+) -> Result<(), DeviceFault>
+    ensures below { WritingBelow (D.ReadSlots.slots d.old) (D.ReadSlots.powered d.old) index bytes.now result (D.ReadSlots.slots d.new) (D.ReadSlots.powered d.new) }
+    ensures wiped { pad.old ≡ blank → pad.new ≡ blank }
+{
+    if index >= shown_count(d) {
+        return Err(DeviceFault::NoSuchSlot);
+    }
+    let pending = pending(d)?;
+    clear(d, pad, pending)?;
+    place(d, index, bytes)
+}
+
+// A restart, and what it does below.
+fn restart_below<D: TearSlots>(d: &mut D, pad: &mut [u8; 64]) -> Result<(), DeviceFault>
+    ensures below { RestartingBelow (D.ReadSlots.slots d.old) result (D.ReadSlots.slots d.new) (D.ReadSlots.powered d.new) }
+    ensures wiped { pad.old ≡ blank → pad.new ≡ blank }
+{
+    d.restart()?;
+    if shown_count(d) == 0 {
+        return Ok(());
+    }
+    let pending = pending(d)?;
+    clear(d, pad, pending)
+}
+
 impl<D: TearSlots> WriteSlots for Journal<D> {
+    #[tactic(auto, using(crate::proofs::Wholes::meanings))]
     fn write(&mut self, index: usize, bytes: &[u8; 64]) -> Result<(), DeviceFault>
         ensures meaning { Writing (shown (D.ReadSlots.slots self.old.below)) (D.ReadSlots.powered self.old.below) index bytes.now result (shown (D.ReadSlots.slots self.new.below)) (D.ReadSlots.powered self.new.below) }
-        ensures below { WritingBelow (D.ReadSlots.slots self.old.below) (D.ReadSlots.powered self.old.below) index bytes.now result (D.ReadSlots.slots self.new.below) }
+        ensures below { WritingBelow (D.ReadSlots.slots self.old.below) (D.ReadSlots.powered self.old.below) index bytes.now result (D.ReadSlots.slots self.new.below) (D.ReadSlots.powered self.new.below) }
+        ensures unused { unusedIn (D.ReadSlots.slots self.new.below) ≡ unusedIn (D.ReadSlots.slots self.old.below) }
         ensures wiped { self.old.pad ≡ blank → self.new.pad ≡ blank }
     {
-        if index >= shown_count(&self.below) {
-            return Err(DeviceFault::NoSuchSlot);
-        }
         let Journal { below, pad } = self;
-        clear_wiped(below, pad)?;
-        place(below, index, bytes)
+        write_below(below, pad, index, bytes)
     }
 
+    #[tactic(auto, using(crate::proofs::Wholes::meanings))]
     fn restart(&mut self) -> Result<(), DeviceFault>
         ensures meaning { Restarting (shown (D.ReadSlots.slots self.old.below)) result (shown (D.ReadSlots.slots self.new.below)) (D.ReadSlots.powered self.new.below) }
-        ensures below { RestartingBelow (D.ReadSlots.slots self.old.below) result (D.ReadSlots.slots self.new.below) }
+        ensures below { RestartingBelow (D.ReadSlots.slots self.old.below) result (D.ReadSlots.slots self.new.below) (D.ReadSlots.powered self.new.below) }
+        ensures unused { unusedIn (D.ReadSlots.slots self.new.below) ≡ unusedIn (D.ReadSlots.slots self.old.below) }
         ensures wiped { self.old.pad ≡ blank → self.new.pad ≡ blank }
     {
-        self.below.restart()?;
-        if shown_count(&self.below) == 0 {
-            return Ok(());
-        }
         let Journal { below, pad } = self;
-        clear_wiped(below, pad)
+        restart_below(below, pad)
     }
 }

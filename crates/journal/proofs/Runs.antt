@@ -1,0 +1,100 @@
+-- Writes made one after another.
+use Rattle.std.proofs.Common.{◌≡◌, ℕ, suc, ◌+◌, ◌<◌, Bool, true, List, [], ◌∷◌, ◌++◌, length, get_or, take, drop, set, map, Ok, Err, sym, refl, ap, ◌∙◌, append_assoc, subst, inl, inr, arith, length-set}
+use Rattle.std.proofs.Math.Seq.{drop-cons}
+use Rattle.std.proofs.lemmas.Bool.{both_ways}
+use Rattle.std.proofs.lemmas.List.{map-append, map_more, take-append-drop}
+use Rattle.std.specs.Result.{is_err}
+use Rattle.device.specs.declared.DeviceFault.{DeviceFault}
+use Rattle.device.specs.declared.DeviceFault.TheVariants.{NoSuchSlot, NoPower}
+use Rattle.device.specs.Effects.{Slot, Slots, Answer, Tearing, torn}
+use Rattle.journal.specs.Layout.{shown}
+use Rattle.journal.specs.Writes.{Write, clearWrites, placeWrites, slotWrites, Within, stood, CutShort, Ran, WritingBelow}
+
+pub stood-append : (s : Slots) (ws vs : List Write) → stood s (ws ++ vs) ≡ stood (stood s ws) vs
+stood-append s [] vs = refl
+stood-append s (w ∷ ws) vs = stood-append (set s w.slot w.bytes) ws vs
+
+pub length-stood : (s : Slots) (ws : List Write) → length (stood s ws) ≡ length s
+length-stood s [] = refl
+length-stood s (w ∷ ws) = length-stood (set s w.slot w.bytes) ws ∙ length-set s w.slot w.bytes
+
+Within_at : (n : ℕ) (ws vs : List Write) (w : Write) → Within n (ws ++ (w ∷ vs)) → w.slot < n
+Within_at n [] vs w h = h.0
+Within_at n (v ∷ ws) vs w h = Within_at n ws vs w h.1
+
+-- the next write fails
+cut_short : (s u : Slots) (front back : List Write) (w : Write) (on : Bool) (e : DeviceFault) (t : Slots) (on' : Bool) → Within (length s) (front ++ (w ∷ back)) → u ≡ stood s front → on ≡ true → Tearing u on w.slot w.bytes (Err e) t on' → Ran s (front ++ (w ∷ back)) (Err e) t on'
+cut_short s u front back w on NoSuchSlot t on' h at o (inl d) =
+    let z = Within_at (length s) front back w h in absurd (omega (arith, d.0, ap length at, length-stood s front))
+cut_short s u front back w on NoPower t on' h at o (inl d) = absurd (both_ways on d.0.1 o)
+cut_short s u front back w on e t on' h at o (inr d) =
+    (d.0, record { front = front; cut = w; back = back; are = refl; standing = d.3.0; few = d.3.1; slots = rw (← at) d.3.2 }, d.4)
+
+-- a row that is gone through: at its k-th write
+module _ {X : Type 0} (f : X → Write) (s : Slots) (xs : List X) (k : ℕ) (d : X) (u : Slots) (at : u ≡ stood s (map f (take k xs))) (h : k < length xs) where
+  pub stood_more : (t : Slots) → t ≡ set u (f (get_or xs k d)).slot (f (get_or xs k d)).bytes → t ≡ stood s (map f (take (k + 1) xs))
+  stood_more t e = e ∙ ap (λ y. set y (f (get_or xs k d)).slot (f (get_or xs k d)).bytes) at ∙ sym (stood-append s (map f (take k xs)) (f (get_or xs k d) ∷ [])) ∙ ap (stood s) (sym (map_more f xs k d h))
+
+  around : map f (take k xs) ++ (f (get_or xs k d) ∷ map f (drop (suc k) xs)) ≡ map f xs
+  around = sym (map-append f (take k xs) (get_or xs k d ∷ drop (suc k) xs)) ∙ ap (λ y. map f (take k xs ++ y)) (sym (drop-cons xs k d h)) ∙ ap (map f) (take-append-drop k xs)
+
+  pub ran_short : (on : Bool) (e : DeviceFault) (t : Slots) (on' : Bool) → Within (length s) (map f xs) → on ≡ true → Tearing u on (f (get_or xs k d)).slot (f (get_or xs k d)).bytes (Err e) t on' → Ran s (map f xs) (Err e) t on'
+  ran_short on e t on' w o c =
+      rw (← around) (cut_short s u (map f (take k xs)) (map f (drop (suc k) xs)) (f (get_or xs k d)) on e t on' (rw around w) at o c)
+
+-- the first writes done, and then the others
+pub ran_then : (s u : Slots) (ws vs : List Write) (r : Answer) (t : Slots) (q : Bool) → u ≡ stood s ws → Ran u vs r t q → Ran s (ws ++ vs) r t q
+ran_then s u ws vs (Ok _) t q a d = (d.0 ∙ ap (λ y. stood y vs) a ∙ sym (stood-append s ws vs), d.1)
+ran_then s u ws vs (Err e) t q a d =
+    let c = d.1 in
+    let at : stood s (ws ++ c.front) ≡ stood u c.front = stood-append s ws c.front ∙ ap (λ y. stood y c.front) (sym a) in
+    let are = ap (λ x. ws ++ x) c.are ∙ sym (append_assoc ws c.front (c.cut ∷ c.back)) in
+    (d.0, record { front = ws ++ c.front; cut = c.cut; back = c.back; are = are; standing = c.standing; few = c.few; slots = rw at c.slots }, d.2)
+
+-- a failure among the first
+pub cut_more : (s : Slots) (ws vs : List Write) (t : Slots) → CutShort s ws t → CutShort s (ws ++ vs) t
+cut_more s ws vs t c =
+    let are = ap (λ x. x ++ vs) c.are ∙ append_assoc c.front (c.cut ∷ c.back) vs in
+    record { front = c.front; cut = c.cut; back = c.back ++ vs; are = are; standing = c.standing; few = c.few; slots = c.slots }
+
+-- P holds wherever the writes are cut, and once all of them stand
+pub data AtEachCut (P : Slots → Type 0) : Slots → List Write → Type 0 where
+  none : {s : Slots} → P s → AtEachCut P s []
+  next : {s : Slots} {w : Write} {ws : List Write} → ((m : ℕ) → P (set s w.slot (torn m (get_or s w.slot []) w.bytes))) → AtEachCut P (set s w.slot w.bytes) ws → AtEachCut P s (w ∷ ws)
+
+pub AtEachCut_done : {P : Slots → Type 0} {s : Slots} {ws : List Write} → AtEachCut P s ws → P (stood s ws)
+AtEachCut_done (none p) = p
+AtEachCut_done (next f h) = AtEachCut_done h
+
+AtEachCut_cut : {P : Slots → Type 0} {s : Slots} (front back : List Write) (w : Write) (m : ℕ) → AtEachCut P s (front ++ (w ∷ back)) → P (set (stood s front) w.slot (torn m (get_or (stood s front) w.slot []) w.bytes))
+AtEachCut_cut [] back w m (next f h) = f m
+AtEachCut_cut (v ∷ front) back w m (next f h) = AtEachCut_cut front back w m h
+
+pub AtEachCut_short : {P : Slots → Type 0} {s : Slots} {ws : List Write} {t : Slots} → AtEachCut P s ws → CutShort s ws t → P t
+AtEachCut_short {P} {s} h c = subst P (sym c.slots) (AtEachCut_cut c.front c.back c.cut c.standing (subst (λ ws. AtEachCut P s ws) c.are h))
+
+pub AtEachCut_ran : {P : Slots → Type 0} {s : Slots} {ws : List Write} (r : Answer) (t : Slots) (q : Bool) → AtEachCut P s ws → Ran s ws r t q → P t
+AtEachCut_ran {P} (Ok _) t q h d = subst P (sym d.0) (AtEachCut_done h)
+AtEachCut_ran (Err e) t q h d = AtEachCut_short h d.1
+
+pub AtEachCut-append : {P : Slots → Type 0} {s : Slots} (ws vs : List Write) → AtEachCut P s ws → AtEachCut P (stood s ws) vs → AtEachCut P s (ws ++ vs)
+AtEachCut-append [] vs a b = b
+AtEachCut-append (w ∷ ws) vs (next f a) b = next f (AtEachCut-append ws vs a b)
+
+pub AtEachCut_weaker : {P Q : Slots → Type 0} {s : Slots} {ws : List Write} → ((t : Slots) → P t → Q t) → AtEachCut P s ws → AtEachCut Q s ws
+AtEachCut_weaker f (none p) = none (f _ p)
+AtEachCut_weaker f (next g h) = next (λ m. f _ (g m)) (AtEachCut_weaker f h)
+
+pub Within-append : (n : ℕ) (ws vs : List Write) → Within n ws → Within n vs → Within n (ws ++ vs)
+Within-append n [] vs a b = b
+Within-append n (w ∷ ws) vs a b = (a.0, Within-append n ws vs a.1 b)
+
+-- clearing, and then placing
+pub write_done : (s : Slots) (i : ℕ) (b : Slot) (r : Answer) (t : Slots) (q : Bool) → Ran (stood s (clearWrites s)) (placeWrites i b) r t q → Ran s (slotWrites s i b) r t q
+write_done s i b r t q d = ran_then s (stood s (clearWrites s)) (clearWrites s) (placeWrites i b) r t q refl d
+
+pub write_cut : (s : Slots) (on : Bool) (i : ℕ) (b : Slot) (r : Answer) (t : Slots) (q : Bool) → is_err r ≡ true → i < length (shown s) → on ≡ true → Ran s (clearWrites s) r t q → WritingBelow s on i b r t q
+write_cut s on i b (Ok _) t q e h o d = absurd cc
+write_cut s on i b (Err x) t q e h o d = inr (h, o, (d.0, cut_more s (clearWrites s) (placeWrites i b) t d.1, d.2))
+
+pub ruleset steps = (write_done, write_cut, length-stood)
