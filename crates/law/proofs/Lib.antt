@@ -18,4 +18,5 @@ pub mod Alike
 pub mod LawHolds
 pub mod Outcomes
 pub mod GoingOn
+pub mod NarrowPast
 pub mod Worked
