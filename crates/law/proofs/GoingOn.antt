@@ -20,10 +20,8 @@ use Rattle.rules.specs.Books.{Given, Book, freshBook, issue, redeem, reopen, fed
 use Rattle.rules.specs.Pasts.{Mode, running, cold, Past, issued, redeemed, reopened}
 use Rattle.law.specs.GoingOn.{IssueOutcome, RedeemOutcome, IsSealed, Opens, PastsGoOn}
 use Rattle.law.proofs.Invariant.{headFor, Inv}
-use Rattle.law.proofs.ReadsBack.{reads-back}
 use Rattle.law.proofs.TicketParts.{heading-in, sealed-in, number-in}
 use Rattle.law.proofs.Readings.{inv-file, inv-read, key-is}
-use Rattle.law.proofs.RedeemKeeps.{redeem-keeps}
 use Rattle.law.proofs.PastKeeps.{past-keeps}
 use Rattle.law.proofs.FromInv.{sound-links}
 use Rattle.law.proofs.Telling.{uncut-running}
@@ -33,7 +31,7 @@ small : treeLevels ≤ 16
 small = omega arith
 
 pub holding : (k : Kit) (root name : List ℕ) (m : Mode) (s : Slots) (on : Bool) (b : Book) → Past k treeLevels root name m s on b → Inv k treeLevels root name m s on b
-holding k root name m s on b p = past-keeps reads-back (redeem-keeps reads-back) k treeLevels root name m s on b small p
+holding k root name m s on b p = past-keeps k treeLevels root name m s on b small p
 
 pub begins : (k : Kit) (root name : List ℕ) (s : Slots) (on : Bool) → length root ≡ valueLength → length name ≡ nameLength →
     slotsLeast treeLevels ≤ length s → length s ≤ slotsMost →
@@ -62,7 +60,7 @@ module _ (k : Kit) (root name : List ℕ) (s : Slots) (on : Bool) (b : Book) (p 
       (o : RedeemOutcome k treeLevels s on ticket room marks) × Past k treeLevels root name running o.after o.power (fed b (redeem ticket o.outcome o.joined))
   redeems ticket room marks known =
       let n = number_in ticket in
-      let file = inv-file reads-back k treeLevels root name running s on b small v in
+      let file = inv-file k treeLevels root name running s on b small v in
       let told : (h : Head) (xs : List Link) (x : Link) → fileOf treeLevels k.generator k.sealer s ≡ sound h xs → In x xs → Covers treeLevels x.node n →
       Opens k (keyFrom k.expansion treeLevels x.node x.value n) ticket =
       λ h xs x e i c.
@@ -102,7 +100,7 @@ reopens k root name s on b p marks enough =
     let verdict : reopenVerdict treeLevels s marks ≡ Ok tt =
     cond-true (leb (roomOf (length s)) marks) _ (Err (plainly ShortBuffer)) (le-leb (roomOf (length s)) marks enough)
     ∙ cond-true (countFits treeLevels s) (Ok tt) (Err (plainly SlotCount)) v.stands.fits in
-    let swept = Reopening.swept f verdict (inv-read reads-back k treeLevels root name cold s on b small v) refl refl refl in
+    let swept = Reopening.swept f verdict (inv-read k treeLevels root name cold s on b small v) refl refl refl in
     (t, swept, reopened s on b marks (Ok tt) t true p swept)
 
 pub pasts-go-on : PastsGoOn

@@ -18,7 +18,7 @@ use Rattle.rules.specs.Calls.{countFits, Making, declined, stopped, cut, made}
 use Rattle.rules.specs.Books.{freshBook}
 use Rattle.rules.specs.Pasts.{Mode, running, cold, mode_of}
 use Rattle.law.specs.Law.{RestBlank}
-use Rattle.law.proofs.Invariant.{Stands, Inv, MakeKeeps}
+use Rattle.law.proofs.Invariant.{Stands, Inv}
 use Rattle.law.proofs.Frames.{length-stood, stood-append, Unnamed, stood-other, count-least, count_kept}
 use Rattle.law.proofs.Readings.{cold-not-running}
 use Rattle.law.proofs.ReopenKeeps.{Whole, Definite, whole_set}
@@ -166,5 +166,6 @@ make-holds k d root name s on r t on' lr ln (made f w e p q) =
     subst₂ (λ (r : Result (Unit {0}) Halt) (t : Slots). Inv k d root name (mode_of r) t on' freshBook × Whole t) (sym e) (sym z)
     (begun k d s root name f running on' lr ln (λ i. p), after-whole k d s root name f)
 
-pub make-keeps : MakeKeeps
+pub make-keeps : (k : Kit) (d : ℕ) (root name : List ℕ) (s : Slots) (on : Bool) (r : Result (Unit {0}) Halt) (t : Slots) (on' : Bool) →
+    length root ≡ valueLength → length name ≡ nameLength → Making k d s on root name r t on' true → Inv k d root name (mode_of r) t on' freshBook
 make-keeps k d root name s on r t on' lr ln h = (make-holds k d root name s on r t on' lr ln h).0

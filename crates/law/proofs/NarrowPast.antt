@@ -9,7 +9,6 @@ use Rattle.fault.specs.declared.Halt.{Halt}
 use Rattle.device.specs.Effects.{Slots, blank}
 use Rattle.session.specs.Limits.{mostLength}
 use Rattle.session.specs.Records.{isRecord, recordSuite, laidOut}
-use Rattle.session.proofs.Trip.{least, most}
 use Rattle.tree.specs.declared.Node.{Node}
 use Rattle.tree.specs.Nodes.{treeLevels, rootNode}
 use Rattle.tree.specs.Cover.{In, cover}
@@ -24,7 +23,6 @@ use Rattle.rules.specs.Files.{makeWrites}
 use Rattle.law.specs.Examples.{Narrow}
 use Rattle.law.specs.GoingOn.{IssueOutcome, RedeemOutcome}
 use Rattle.law.proofs.Frames.{length-stood}
-use Rattle.law.proofs.ReadsBack.{reads-back}
 use Rattle.law.proofs.FromInv.{once-law}
 use Rattle.law.proofs.Telling.{issue-told, issue-length, redeem-length}
 use Rattle.law.proofs.Told.{issueLeft, issueRecord, issueFits, issueBar, barred, given, ok-not-err}
@@ -115,7 +113,7 @@ module _ (k : Kit) (root name : List ℕ) where
         let g = issues k root name w.s w.on w.b w.past shortest ticketMost marks in
         let free : issueBar treeLevels (length w.s) w.b.issued shortest ticketMost marks ≡ Ok tt =
         issue-open treeLevels (length w.s) w.b.issued shortest ticketMost marks (omega arith) (omega arith) (omega (arith, w.slots)) (omega (arith, w.slots)) shortest-record (omega (arith, w.issued)) in
-        elim (issue-told reads-back k treeLevels root name w.s w.on w.b small (holding k root name running w.s w.on w.b w.past) shortest ticketMost marks
+        elim (issue-told k treeLevels root name w.s w.on w.b small (holding k root name running w.s w.on w.b w.past) shortest ticketMost marks
         g.0.outcome g.0.ticket g.0.after g.0.power g.0.headed g.0.uncut g.0.call) [
           | barred h e q ↦ absurd (ok-not-err (issueBar treeLevels (length w.s) w.b.issued shortest ticketMost marks) h free e)
           | given x e i c q ↦ handed g.0 g.1 _ q.outcome q.counts
@@ -194,7 +192,7 @@ module _ (k : Kit) (root name : List ℕ) (lawful : Lawful k) (w : Shelf k root 
   reached =
       let o = done.0 in
       let many = ap length root-only in
-      after _ ((once-law reads-back least most k treeLevels root name running w.s w.on w.b lawful small (holding k root name running w.s w.on w.b w.past)).opens refl g g-in
+      after _ ((once-law k treeLevels root name running w.s w.on w.b lawful small (holding k root name running w.s w.on w.b w.past)).opens refl g g-in
       (λ i. subst (λ (l : List ℕ). In g.number l) w.spent i)
       rootNode (subst (λ (l : List Node). In rootNode l) (sym root-only) (inl refl)) (omega arith, omega (arith, g-zero))
       (omega (arith, w.slots)) mostLength (roomOf (length w.s)) (omega arith) (omega arith) o.outcome o.state o.after o.power o.joined o.call o.uncut).0

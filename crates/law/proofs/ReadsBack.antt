@@ -18,9 +18,10 @@ use Rattle.tree.proofs.Exact.{in_order, exactly}
 use Rattle.tree.proofs.Keys.{of-valued}
 use Rattle.tree.proofs.Shapes.{node-to}
 use Rattle.chain.specs.Reading.{Link, valuedOf, end_of, mayFollow, Walk, broken, walked, consed, nodeIn, walk, lowestFrom, uncovered, badHead, sound, judged, headed, fileOf}
+use Rattle.rules.specs.Kits.{Kit, nameLength}
 use Rattle.rules.specs.Files.{entry, recordOf}
 use Rattle.rules.specs.Calls.{slotsLeast, slotsMost, countFits}
-use Rattle.law.proofs.Invariant.{Linked, headFor, ReadsBack}
+use Rattle.law.proofs.Invariant.{Linked, headFor, Stands}
 use Rattle.law.proofs.NoTwins.{Follows, cover-follows}
 
 -- ---- the nodes and values of a chain
@@ -186,7 +187,9 @@ lowest d m (x ∷ xs) o r =
 pub slots-few : (d : ℕ) (s : Slots) → countFits d s ≡ true → length s ≤ slotsMost
 slots-few d s e = leb-true (length s) slotsMost (and_parts (leb (slotsLeast d) (length s)) (leb (length s) slotsMost) e).1
 
-pub reads-back : ReadsBack
+pub reads-back : (k : Kit) (d : ℕ) (root name : List ℕ) (issued : ℕ) (spent : List ℕ) (s : Slots) (xs : List Link) → d ≤ 16 →
+    Stands k d name issued s xs → length name ≡ nameLength → issued ≤ 2 ^ d → ((n : ℕ) → In n spent → n < issued) →
+    map valuedOf xs ≡ valuedCover k.expansion d root spent → fileOf d k.generator k.sealer s ≡ sound (headFor k name issued (entry xs 0)) xs
 unfolding fileOf
 reads-back k d root name issued spent s xs dl st nl il below q =
     let ns : nodesOf xs ≡ cover d spent = nodes-are (value_of k.expansion d root) xs (cover d spent) q in

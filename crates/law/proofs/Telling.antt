@@ -27,7 +27,7 @@ use Rattle.rules.specs.Calls.{Sound, Outcome, Finished, read_by, countFits, same
 use Rattle.rules.specs.Books.{Book}
 use Rattle.rules.specs.Pasts.{running, cold, isNoPower, modeAfter}
 use Rattle.law.specs.Law.{Uncut}
-use Rattle.law.proofs.Invariant.{headFor, Inv, ReadsBack}
+use Rattle.law.proofs.Invariant.{headFor, Inv}
 use Rattle.law.proofs.Frames.{length-stood}
 use Rattle.law.proofs.Readings.{inv-read, link-is, key-is, issue-ok, MayRedeem, redeem-ok}
 use Rattle.law.proofs.Told.{Out, Barrier, issueLeft, issueRecord, issueFits, issueBar, IssueTold, redeemIssued, redeemNamed, redeemLong, redeemFits, redeemBar, SealedAs, RoomTold, PlainTold, SealTold, NodeTold, RedeemTold}
@@ -135,12 +135,12 @@ RedeemTale k d root name s b ticket room marks r u j =
     RedeemTold d (number_in ticket) (length s - 1 - length (cover d b.spent)) room k.sealing (key_of k.expansion d root (number_in ticket)) (headingIn ticket) (sealedIn ticket)
     (cover d b.spent) (redeemBar d k.overhead (length s) b.issued name ticket room marks) r u j
 
-module _ (reads : ReadsBack) (k : Kit) (d : ℕ) (root name : List ℕ) (s : Slots) (on : Bool) (b : Book) (small : d ≤ 16) (v : Inv k d root name running s on b) where
+module _ (k : Kit) (d : ℕ) (root name : List ℕ) (s : Slots) (on : Bool) (b : Book) (small : d ≤ 16) (v : Inv k d root name running s on b) where
   abbrev file : Sound
   file = (headFor k name b.issued (entry v.links 0), v.links)
 
   read : read_by k d s on ≡ Ok file
-  read = subst (λ (o : Bool). read_by k d s o ≡ Ok file) (sym (v.power refl)) (inv-read reads k d root name running s on b small v)
+  read = subst (λ (o : Bool). read_by k d s o ≡ Ok file) (sym (v.power refl)) (inv-read k d root name running s on b small v)
 
   module _ (plain : List ℕ) (room marks : ℕ) where
     given-told : (f : Sound) (x : Link) (r : Outcome) (ticket : List ℕ) (headed : Bool) → issueVerdict k d s on plain room marks ≡ Ok f → In x f.1 → Covers d x.node f.0.issued →

@@ -3,7 +3,6 @@ use Rattle.std.proofs.Common.{◌≡◌, ℕ, ◌≤◌, Bool, List, [], ◌∷�
 use Rattle.refusal.specs.declared.Refusal.TheVariants.{NoFreeSlot}
 use Rattle.fault.specs.Faults.{placed}
 use Rattle.device.specs.Effects.{Slots}
-use Rattle.session.proofs.Trip.{least, most}
 use Rattle.tree.specs.declared.Node.{Node}
 use Rattle.tree.specs.Nodes.{treeLevels, nodeAt}
 use Rattle.tree.specs.Cover.{In, cover}
@@ -13,8 +12,6 @@ use Rattle.rules.specs.Books.{Given, Book}
 use Rattle.rules.specs.Pasts.{running}
 use Rattle.law.specs.Examples.{Narrow, TwoPasses, FourDeclined, NarrowServer, NarrowExample, AllExamples}
 use Rattle.law.proofs.Invariant.{Inv}
-use Rattle.law.proofs.ReadsBack.{reads-back}
-use Rattle.law.proofs.RedeemKeeps.{redeem-keeps}
 use Rattle.law.proofs.PastKeeps.{past-keeps}
 use Rattle.law.proofs.FromInv.{once-law, full-law}
 use Rattle.law.proofs.GoingOn.{redeems, sealed}
@@ -27,7 +24,7 @@ small = omega arith
 
 module _ (k : Kit) (root name : List ℕ) (s : Slots) (on : Bool) (b : Book) (w : Narrow k root name s on b) where
   inv : Inv k treeLevels root name running s on b
-  inv = past-keeps reads-back (redeem-keeps reads-back) k treeLevels root name running s on b small w.past
+  inv = past-keeps k treeLevels root name running s on b small w.past
 
   roomy : (marks : ℕ) → roomOf 18 ≤ marks → roomOf (length s) ≤ marks
   roomy marks l = subst (λ (n : ℕ). roomOf n ≤ marks) (sym w.slots) l
@@ -54,13 +51,13 @@ module _ (k : Kit) (root name : List ℕ) (s : Slots) (on : Bool) (b : Book) (w 
 -- ---- every narrow server
 two-passes : TwoPasses
 two-passes k root name s on b lawful w g given e room marks lr lm r state t on' joined d u =
-    ((once-law reads-back least most k treeLevels root name running s on b lawful small (inv k root name s on b w)).opens refl g given (unspent k root name s on b w g e)
+    ((once-law k treeLevels root name running s on b lawful small (inv k root name s on b w)).opens refl g given (unspent k root name s on b w g e)
     (nodeAt 15 2) (two_in k root name s on b w) (omega arith, omega arith)
     (omega (arith, many k root name s on b w, w.slots)) room marks lr (roomy k root name s on b w marks lm) r state t on' joined d u).0
 
 four-declined : FourDeclined
 four-declined k root name s on b lawful w g given e room marks lr lm r state t on' joined d =
-    full-law reads-back least most k treeLevels root name s on b lawful small (inv k root name s on b w) g given
+    full-law k treeLevels root name s on b lawful small (inv k root name s on b w) g given
     (nodeAt 14 4) (four-in k root name s on b w) (omega arith, omega arith)
     (omega (arith, many k root name s on b w, w.slots)) room marks lr (roomy k root name s on b w marks lm) r state t on' joined d ∙ ap (λ (n : ℕ). Err (placed NoFreeSlot n)) e
 
