@@ -1,5 +1,4 @@
 pub mod Invariant
-pub mod NoTwins
 pub mod ReadsBack
 pub mod TicketParts
 pub mod FromInv
