@@ -22,7 +22,8 @@ use Rattle.rules.specs.Books.{Given, Book, raised, issue, fed}
 use Rattle.rules.specs.Pasts.{Mode, running, cold, modeAfter}
 use Rattle.law.specs.Law.{RestBlank}
 use Rattle.law.proofs.Invariant.{headFor, Stands, Inv}
-use Rattle.law.proofs.Frames.{count-least, count_kept, not-zero, linked-frame}
+use Rattle.law.proofs.Frames.{count-least, count_kept, linked-set}
+use Rattle.law.proofs.Chains.{not-zero}
 use Rattle.law.proofs.Readings.{cold-not-running, inv-read, key-is, MayIssue, issue-ok, still, cooled}
 
 -- ---- the head with one more number issued
@@ -39,7 +40,7 @@ stands-recounted k d name n s xs v =
     record {
       fits = count_kept d s (set s 0 b) (length-set s 0 b) v.fits;
       head = get_or-set_same s 0 b [] z ∙ (ap (recounted (n + 1)) v.head ∙ recounted-head k d name n (entry xs 0) (n + 1));
-      links = linked-frame s xs 0 0 b (not-zero s xs 0 v.links) v.links;
+      links = linked-set s xs 0 0 b (not-zero s xs 0 v.links) v.links;
       apart = v.apart;
     }
 

@@ -19,7 +19,8 @@ use Rattle.rules.specs.Books.{freshBook}
 use Rattle.rules.specs.Pasts.{Mode, running, cold, mode_of}
 use Rattle.law.specs.Law.{RestBlank}
 use Rattle.law.proofs.Invariant.{Stands, Inv}
-use Rattle.law.proofs.Frames.{length-stood, stood-append, Unnamed, stood-other, count-least, count_kept}
+use Rattle.steps.proofs.Plans.{length-stood, stood-append}
+use Rattle.law.proofs.Frames.{Unnamed, stood-other, count-least, count_kept}
 use Rattle.law.proofs.Readings.{cold-not-running}
 use Rattle.law.proofs.ReopenKeeps.{Whole, Definite, whole_set}
 
@@ -41,7 +42,7 @@ blank-at (suc n) i j s a b c =
       | inl q ↦
           let o : Unnamed j (blankWrites (suc i) n) = λ w m e. let h = blanks-from n (suc i) w m in omega (arith, e) in
           let g : get_or (set s i blank) j [] ≡ blank = subst (λ (k : ℕ). get_or (set s i blank) k [] ≡ blank) (sym q) (get_or-set_same s i blank [] (subst (λ (k : ℕ). k < length s) q c)) in
-          stood-other (blankWrites (suc i) n) (set s i blank) j o ∙ g
+          stood-other (set s i blank) (blankWrites (suc i) n) j o ∙ g
       | inr q ↦ blank-at n (suc i) j (set s i blank) (omega (arith, q)) (omega arith) (omega arith)
     ]
 
@@ -64,12 +65,12 @@ module _ (k : Kit) (d : ℕ) (s : Slots) (root name : List ℕ) (fits : countFit
 
   wrote : stood s (makeWrites k d s root name) ≡ after
   unfolding after zeroed
-  wrote = stood-append (blankWrites 0 (length s))
-      (record { slot = 1; bytes = rootRecord root; step = Make } ∷ record { slot = 0; bytes = encodeHead d (firstHead k name); step = Make } ∷ []) s
+  wrote = stood-append s (blankWrites 0 (length s))
+      (record { slot = 1; bytes = rootRecord root; step = Make } ∷ record { slot = 0; bytes = encodeHead d (firstHead k name); step = Make } ∷ [])
 
   length-zeroed : length zeroed ≡ length s
   unfolding zeroed
-  length-zeroed = length-stood (blankWrites 0 (length s)) s
+  length-zeroed = length-stood s (blankWrites 0 (length s))
 
   length-after : length after ≡ length s
   unfolding after

@@ -22,7 +22,7 @@ use Rattle.rules.specs.Pasts.{running, Past}
 use Rattle.rules.specs.Files.{makeWrites}
 use Rattle.law.specs.Examples.{Narrow}
 use Rattle.law.specs.GoingOn.{IssueOutcome, RedeemOutcome}
-use Rattle.law.proofs.Frames.{length-stood}
+use Rattle.steps.proofs.Plans.{length-stood}
 use Rattle.law.proofs.FromInv.{once-law}
 use Rattle.law.proofs.Telling.{issue-told, issue-length, redeem-length}
 use Rattle.law.proofs.Told.{issueLeft, issueRecord, issueFits, issueBar, barred, given, ok-not-err}
@@ -56,8 +56,8 @@ make-length : {k : Kit} {d : ℕ} {s : Slots} {on : Bool} {root name : List ℕ}
     Making k d s on root name r t on' headed → length t ≡ length s
 make-length (Making.declined f e z p q) = ap length z
 make-length (Making.stopped f e z p q) = ap length z
-make-length {k = k} {d = d} {s = s} {root = root} {name = name} (Making.cut m h f c e p q) = ap length c.slots ∙ length-stood (take m (makeWrites k d s root name)) s
-make-length {k = k} {d = d} {s = s} {root = root} {name = name} (Making.made f z e p q) = ap length z ∙ length-stood (makeWrites k d s root name) s
+make-length {k = k} {d = d} {s = s} {root = root} {name = name} (Making.cut m h f c e p q) = ap length c.slots ∙ length-stood s (take m (makeWrites k d s root name))
+make-length {k = k} {d = d} {s = s} {root = root} {name = name} (Making.made f z e p q) = ap length z ∙ length-stood s (makeWrites k d s root name)
 
 -- nothing stops an issue of a record with a number left
 issue-open : (d c i : ℕ) (bs : List ℕ) (room marks : ℕ) → ticketMost ≤ room → roomOf c ≤ marks → slotsLeast d ≤ c → c ≤ slotsMost → isRecord bs ≡ true → i < 2 ^ d → issueBar d c i bs room marks ≡ Ok tt

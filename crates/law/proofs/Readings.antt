@@ -24,8 +24,7 @@ use Rattle.rules.specs.Books.{Book}
 use Rattle.rules.specs.Pasts.{Mode, running, cold}
 use Rattle.law.specs.Law.{RestBlank}
 use Rattle.law.proofs.Invariant.{headFor, Stands, Inv}
-use Rattle.law.proofs.Frames.{in_map}
-use Rattle.law.proofs.ReadsBack.{reads-back}
+use Rattle.law.proofs.ReadsBack.{in_map, reads-back}
 
 -- ---- modes
 abbrev IsCold : Mode → Type 0

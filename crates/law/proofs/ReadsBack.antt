@@ -35,10 +35,10 @@ nodes-are f (x ∷ xs) (n ∷ ns) q =
 pub as_many : (f : Node → List ℕ) (xs : List Link) (ns : List Node) → map valuedOf xs ≡ valued f ns → length xs ≡ length ns
 as_many f xs ns q = sym (length-map xs (λ (x : Link). x.node)) ∙ ap length (nodes-are f xs ns q)
 
-in_map : (xs : List Link) (x : Link) → In x xs → In (valuedOf x) (map valuedOf xs)
-in_map (y ∷ ys) x (inl q) = inl (ap valuedOf q)
-in_map (y ∷ ys) x (inr i) = inr (in_map ys x i)
-in_map [] x i = absurd i
+pub in_map : {A B : Type 0} (f : A → B) (x : A) (xs : List A) → In x xs → In (f x) (map f xs)
+in_map f x [] i = absurd i
+in_map f x (y ∷ ys) (inl e) = inl (ap f e)
+in_map f x (y ∷ ys) (inr i) = inr (in_map f x ys i)
 
 value-at : (f : Node → List ℕ) (ns : List Node) (x : Node) (u : List ℕ) → In (x, u) (valued f ns) → u ≡ f x
 value-at f (y ∷ ys) x u (inl q) = ap (λ (z : Valued). z.1) q ∙ ap f (sym (ap (λ (z : Valued). z.0) q))
@@ -48,7 +48,7 @@ value-at f [] x u i = absurd i
 -- each link's node is one of the list, with the value that the list has for it
 pub link-in : (f : Node → List ℕ) (xs : List Link) (ns : List Node) → map valuedOf xs ≡ valued f ns → (x : Link) → In x xs → In x.node ns × (x.value ≡ f x.node)
 link-in f xs ns q x i =
-    let j : In (valuedOf x) (valued f ns) = subst (λ (l : List Valued). In (valuedOf x) l) q (in_map xs x i) in
+    let j : In (valuedOf x) (valued f ns) = subst (λ (l : List Valued). In (valuedOf x) l) q (in_map valuedOf x xs i) in
     (of-valued f ns x.node x.value j, value-at f ns x.node x.value j)
 
 -- and each node of a chain is a link's
