@@ -17,8 +17,9 @@ use Rattle.rules.specs.Calls.{Outcome, Issuing, Redeeming}
 use Rattle.rules.specs.Books.{Book, raised, noted, issue, redeem, fed}
 use Rattle.rules.specs.Pasts.{Mode, running, Past}
 use Rattle.law.specs.Law.{Uncut, Ask, issuing, redeeming, Reply, Served, done, issues, redeems, Agree, AlikeLaw}
-use Rattle.law.proofs.Invariant.{headFor, Inv, ReadsBack, RedeemKeeps}
+use Rattle.law.proofs.Invariant.{headFor, Inv}
 use Rattle.law.proofs.Readings.{inv-file}
+use Rattle.law.proofs.RedeemKeeps.{redeem-keeps}
 use Rattle.law.proofs.IssueKeeps.{issue-keeps}
 use Rattle.law.proofs.PastKeeps.{past-keeps}
 use Rattle.law.proofs.Told.{Out, issueBar, IssueTold, issue-same, redeemBar, Sealer, RedeemTold, redeem-same}
@@ -89,16 +90,16 @@ redeem-agree d k root s t b k' root' s' t' b' ticket r r' j j' a l l' e = record
 }
 
 -- ---- one further call
-module _ (reads : ReadsBack) (d : ℕ) (small : d ≤ 16) (name : List ℕ) (k k' : Kit) (root root' : List ℕ) (law : Lawful k)
+module _ (d : ℕ) (small : d ≤ 16) (name : List ℕ) (k k' : Kit) (root root' : List ℕ) (law : Lawful k)
     (s s' : Slots) (on on' : Bool) (b b' : Book) (v : Inv k d root name running s on b) (v' : Inv k' d root' name running s' on' b') (a : Agree d k root s b k' root' s' b') where
   pub issue-alike : (plain : List ℕ) (room marks : ℕ) (r r' : Outcome) (u u' : List ℕ) (t t' : Slots) (o o' j j' : Bool) → Uncut r → Uncut r' →
       Issuing k d s on plain room marks r u t o j → Issuing k' d s' on' plain room marks r' u' t' o' j' → Out r u j r' u' j'
   issue-alike plain room marks r r' u u' t t' o o' j j' w w' i i' =
       let n = b.issued in
-      let told = issue-told reads k d root name s on b small v plain room marks r u t o j w i in
+      let told = issue-told k d root name s on b small v plain room marks r u t o j w i in
       let told' = subst₃ (λ (c : ℕ) (i : ℕ) (nodes : List Node).
       IssueTold d (issueBar d c i plain room marks) nodes i (ticketOf k' name i (key_of k'.expansion d root' i) plain) room r' u' j')
-      (sym a.slots) (sym a.issued) (sym (covers-same d k root s b k' root' s' b' a)) (issue-told reads k' d root' name s' on' b' small v' plain room marks r' u' t' o' j' w' i') in
+      (sym a.slots) (sym a.issued) (sym (covers-same d k root s b k' root' s' b' a)) (issue-told k' d root' name s' on' b' small v' plain room marks r' u' t' o' j' w' i') in
       issue-same d (issueBar d (length s) n plain room marks) (cover d b.spent) n
       (ticketOf k name n (key_of k.expansion d root n) plain) (ticketOf k' name n (key_of k'.expansion d root' n) plain) room r r' u u' j j'
       (at_most_one d b.spent n)
@@ -112,10 +113,10 @@ module _ (reads : ReadsBack) (d : ℕ) (small : d ≤ 16) (name : List ℕ) (k k
       let nodes = cover d b.spent in
       let key = key_of k.expansion d root n in
       let key' = key_of k'.expansion d root' n in
-      let told = redeem-told reads k d root name s on b small v ticket room marks r u t o j w i in
+      let told = redeem-told k d root name s on b small v ticket room marks r u t o j w i in
       let told1 = subst₃ (λ (c : ℕ) (i : ℕ) (xs : List Node).
       RedeemTold d n (c - 1 - length xs) room k'.sealing key' (headingIn ticket) (sealedIn ticket) xs (redeemBar d k'.overhead c i name ticket room marks) r' u' j')
-      (sym a.slots) (sym a.issued) (sym (covers-same d k root s b k' root' s' b' a)) (redeem-told reads k' d root' name s' on' b' small v' ticket room marks r' u' t' o' j' w' i') in
+      (sym a.slots) (sym a.issued) (sym (covers-same d k root s b k' root' s' b' a)) (redeem-told k' d root' name s' on' b' small v' ticket room marks r' u' t' o' j' w' i') in
       let told2 = subst (λ (c : ℕ).
       RedeemTold d n (length s - 1 - length nodes) room k'.sealing key' (headingIn ticket) (sealedIn ticket) nodes (redeemBar d c (length s) b.issued name ticket room marks) r' u' j')
       (sym a.overhead) told1 in
@@ -170,21 +171,21 @@ redeem-served : (k : Kit) (d : ℕ) (s : Slots) (on : Bool) (ticket : List ℕ) 
 redeem-served k d s on ticket room marks asks replies (redeems s₀ on₀ ticket₀ room₀ marks₀ r state t on' joined asks₀ rest call uncut then) =
     record { r = r; state = state; t = t; on' = on'; joined = joined; rest = rest; are = refl; call = call; uncut = uncut; then = then }
 
-module _ (reads : ReadsBack) (spending : RedeemKeeps) (d : ℕ) (small : d ≤ 16) (name : List ℕ) (k k' : Kit) (root root' : List ℕ) (law : Lawful k) (law' : Lawful k') where
+module _ (d : ℕ) (small : d ≤ 16) (name : List ℕ) (k k' : Kit) (root root' : List ℕ) (law : Lawful k) (law' : Lawful k') where
   pub served-alike : (asks : List Ask) (s s' : Slots) (on on' : Bool) (b b' : Book) → Inv k d root name running s on b → Inv k' d root' name running s' on' b' →
       Agree d k root s b k' root' s' b' → (replies replies' : List Reply) → Served k d s on asks replies → Served k' d s' on' asks replies' → replies ≡ replies'
   served-alike [] s s' on on' b b' v v' a replies replies' p p' = none-served k d s on replies p ∙ sym (none-served k' d s' on' replies' p')
   served-alike (issuing plain room marks ∷ asks) s s' on on' b b' v v' a replies replies' p p' =
       let c = issue-served k d s on plain room marks asks replies p in
       let c' = issue-served k' d s' on' plain room marks asks replies' p' in
-      let o = issue-alike reads d small name k k' root root' law s s' on on' b b' v v' a plain room marks c.r c'.r c.ticket c'.ticket c.t c'.t c.on' c'.on' c.headed c'.headed
+      let o = issue-alike d small name k k' root root' law s s' on on' b b' v v' a plain room marks c.r c'.r c.ticket c'.ticket c.t c'.t c.on' c'.on' c.headed c'.headed
       c.uncut c'.uncut c.call c'.call in
       let b1 = fed b (issue plain c.r c.ticket c.headed) in
       let b1' = fed b' (issue plain c'.r c'.ticket c'.headed) in
       let w = subst (λ (m : Mode). Inv k d root name m c.t c.on' b1) (uncut-running c.r c.uncut)
-      (issue-keeps reads k d root name s on b plain room marks c.r c.ticket c.t c.on' c.headed small v c.call) in
+      (issue-keeps k d root name s on b plain room marks c.r c.ticket c.t c.on' c.headed small v c.call) in
       let w' = subst (λ (m : Mode). Inv k' d root' name m c'.t c'.on' b1') (uncut-running c'.r c'.uncut)
-      (issue-keeps reads k' d root' name s' on' b' plain room marks c'.r c'.ticket c'.t c'.on' c'.headed small v' c'.call) in
+      (issue-keeps k' d root' name s' on' b' plain room marks c'.r c'.ticket c'.t c'.on' c'.headed small v' c'.call) in
       let n = issue-agree d k root s c.t b k' root' s' c'.t b' plain c.r c'.r c.ticket c'.ticket c.headed c'.headed a
       (issue-length k d s on plain room marks c.r c.ticket c.t c.on' c.headed c.call)
       (issue-length k' d s' on' plain room marks c'.r c'.ticket c'.t c'.on' c'.headed c'.call) o.counts in
@@ -193,14 +194,14 @@ module _ (reads : ReadsBack) (spending : RedeemKeeps) (d : ℕ) (small : d ≤ 1
   served-alike (redeeming ticket room marks ∷ asks) s s' on on' b b' v v' a replies replies' p p' =
       let c = redeem-served k d s on ticket room marks asks replies p in
       let c' = redeem-served k' d s' on' ticket room marks asks replies' p' in
-      let o = redeem-alike reads d small name k k' root root' law s s' on on' b b' v v' a ticket room marks c.r c'.r c.state c'.state c.t c'.t c.on' c'.on' c.joined c'.joined
+      let o = redeem-alike d small name k k' root root' law s s' on on' b b' v v' a ticket room marks c.r c'.r c.state c'.state c.t c'.t c.on' c'.on' c.joined c'.joined
       c.uncut c'.uncut c.call c'.call in
       let b1 = fed b (redeem ticket c.r c.joined) in
       let b1' = fed b' (redeem ticket c'.r c'.joined) in
       let w = subst (λ (m : Mode). Inv k d root name m c.t c.on' b1) (uncut-running c.r c.uncut)
-      (spending k d root name s on b ticket room marks c.r c.state c.t c.on' c.joined small v c.call) in
+      (redeem-keeps k d root name s on b ticket room marks c.r c.state c.t c.on' c.joined small v c.call) in
       let w' = subst (λ (m : Mode). Inv k' d root' name m c'.t c'.on' b1') (uncut-running c'.r c'.uncut)
-      (spending k' d root' name s' on' b' ticket room marks c'.r c'.state c'.t c'.on' c'.joined small v' c'.call) in
+      (redeem-keeps k' d root' name s' on' b' ticket room marks c'.r c'.state c'.t c'.on' c'.joined small v' c'.call) in
       let n = redeem-agree d k root s c.t b k' root' s' c'.t b' ticket c.r c'.r c.joined c'.joined a
       (redeem-length k d s on ticket room marks c.r c.state c.t c.on' c.joined c.call)
       (redeem-length k' d s' on' ticket room marks c'.r c'.state c'.t c'.on' c'.joined c'.call) o.counts in
@@ -208,27 +209,27 @@ module _ (reads : ReadsBack) (spending : RedeemKeeps) (d : ℕ) (small : d ≤ 1
       c.are ∙ (ap₂ (λ (x : Reply) (xs : List Reply). x ∷ xs) (ap₂ reply o.outcome o.buffer) rest ∙ sym c'.are)
 
 -- of two servers of which the invariant holds
-pub alike-law : (reads : ReadsBack) (spending : RedeemKeeps) (k k' : Kit) (d : ℕ) (root root' name : List ℕ) (s s' : Slots) (on on' : Bool) (b b' : Book) → Lawful k → Lawful k' → d ≤ 16 →
+pub alike-law : (k k' : Kit) (d : ℕ) (root root' name : List ℕ) (s s' : Slots) (on on' : Bool) (b b' : Book) → Lawful k → Lawful k' → d ≤ 16 →
     Inv k d root name running s on b → Inv k' d root' name running s' on' b' → Agree d k root s b k' root' s' b' → AlikeLaw k d s on k' s' on'
-alike-law reads spending k k' d root root' name s s' on on' b b' law law' small v v' a = record {
+alike-law k k' d root root' name s s' on on' b b' law law' small v v' a = record {
   head = headFor k name b.issued (entry v.links 0);
   links = v.links;
-  read = inv-file reads k d root name running s on b small v;
+  read = inv-file k d root name running s on b small v;
   head' = headFor k' name b'.issued (entry v'.links 0);
   links' = v'.links;
-  read' = inv-file reads k' d root' name running s' on' b' small v';
+  read' = inv-file k' d root' name running s' on' b' small v';
   chains = v.covers ∙ (valued_same d k root s b k' root' s' b' a ∙ sym v'.covers);
   rest = v.rest refl;
   rest' = v'.rest refl;
-  answers = λ asks replies replies' p p'. served-alike reads spending d small name k k' root root' law law' asks s s' on on' b b' v v' a replies replies' p p';
+  answers = λ asks replies replies' p p'. served-alike d small name k k' root root' law law' asks s s' on on' b b' v v' a replies replies' p p';
 }
 
 -- of two pasts
-pub alike : ReadsBack → RedeemKeeps → (k k' : Kit) (root root' name : List ℕ) (s s' : Slots) (on on' : Bool) (b b' : Book) → Lawful k → Lawful k' →
+pub alike : (k k' : Kit) (root root' name : List ℕ) (s s' : Slots) (on on' : Bool) (b b' : Book) → Lawful k → Lawful k' →
     Past k treeLevels root name running s on b → Past k' treeLevels root' name running s' on' b' →
     Agree treeLevels k root s b k' root' s' b' → AlikeLaw k treeLevels s on k' s' on'
-alike reads spending k k' root root' name s s' on on' b b' law law' p p' a =
+alike k k' root root' name s s' on on' b b' law law' p p' a =
     let small : treeLevels ≤ 16 = omega arith in
-    alike-law reads spending k k' treeLevels root root' name s s' on on' b b' law law' small
-    (past-keeps reads spending k treeLevels root name running s on b small p)
-    (past-keeps reads spending k' treeLevels root' name running s' on' b' small p') a
+    alike-law k k' treeLevels root root' name s s' on on' b b' law law' small
+    (past-keeps k treeLevels root name running s on b small p)
+    (past-keeps k' treeLevels root' name running s' on' b' small p') a

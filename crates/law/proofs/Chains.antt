@@ -1,49 +1,13 @@
--- Chains in slots: their slots, their parts, and the writes that leave them as they are.
-use Rattle.std.proofs.Common.{◌≡◌, ℕ, zero, suc, ◌<◌, true, ◌&&◌, leb, ◌⊎◌, List, [], ◌∷◌, ◌++◌, map, length, get_or, take, set, sym, refl, ap, ◌∙◌, subst, inl, inr, arith}
-use Rattle.std.proofs.lemmas.List.{length-set, get_or-set_other}
+-- Chains in slots, put together from two: their slots, their nodes with values, and how each record leads to the next.
+use Rattle.std.proofs.Common.{◌≡◌, ℕ, ◌<◌, ◌⊎◌, List, [], ◌∷◌, ◌++◌, map, length, sym, refl, ap, ◌∙◌, subst, inl, inr, arith}
 use Rattle.device.specs.Effects.{Slots}
 use Rattle.tree.specs.Cover.{In, Distinct}
 use Rattle.tree.specs.Values.{Valued}
 use Rattle.chain.specs.Reading.{Link, valuedOf, slots_of}
-use Rattle.rules.specs.Kits.{Kit}
-use Rattle.steps.specs.OneStep.{Write}
-use Rattle.steps.specs.Writes.{stood}
 use Rattle.rules.specs.Files.{entry, recordOf}
-use Rattle.rules.specs.Calls.{countFits, slotsLeast, slotsMost}
-use Rattle.law.proofs.Invariant.{Linked, Stands}
+use Rattle.law.proofs.Invariant.{Linked}
 
--- ---- writes
--- the slots that writes go to
-abbrev pub targets : List Write → List ℕ
-targets [] = []
-targets (w ∷ ws) = w.slot ∷ targets ws
-
-pub stood-append : (s : Slots) (us vs : List Write) → stood s (us ++ vs) ≡ stood (stood s us) vs
-stood-append s [] vs = refl
-stood-append s (u ∷ us) vs = stood-append (set s u.slot u.bytes) us vs
-
-pub length-stood : (s : Slots) (ws : List Write) → length (stood s ws) ≡ length s
-length-stood s [] = refl
-length-stood s (w ∷ ws) = length-stood (set s w.slot w.bytes) ws ∙ length-set s w.slot w.bytes
-
--- a slot that no write goes to stays
-pub stood-other : (s : Slots) (ws : List Write) (i : ℕ) → (In i (targets ws) → ⊥) → get_or (stood s ws) i [] ≡ get_or s i []
-stood-other s [] i f = refl
-stood-other s (w ∷ ws) i f =
-    stood-other (set s w.slot w.bytes) ws i (λ m. f (inr m)) ∙ get_or-set_other s w.slot i w.bytes [] (λ q. f (inl q))
-
-pub in_take : (m : ℕ) (ws : List Write) (i : ℕ) → In i (targets (take m ws)) → In i (targets ws)
-in_take zero ws i q = absurd q
-in_take (suc m) [] i q = absurd q
-in_take (suc m) (w ∷ ws) i (inl q) = inl q
-in_take (suc m) (w ∷ ws) i (inr q) = inr (in_take m ws i q)
-
-pub in-targets : (us vs : List Write) (i : ℕ) → In i (targets (us ++ vs)) → In i (targets us) ⊎ In i (targets vs)
-in-targets [] vs i q = inr q
-in-targets (u ∷ us) vs i (inl q) = inl (inl q)
-in-targets (u ∷ us) vs i (inr q) = elim (in-targets us vs i q) [ inl a ↦ inl (inr a) | inr b ↦ inr b ]
-
--- ---- the slots of a chain that is put together from two
+-- ---- the slots
 pub slot-left : (j : ℕ) (xs ys : List Link) → In j (slots_of xs) → In j (slots_of (xs ++ ys))
 slot-left j [] ys m = absurd m
 slot-left j (x ∷ xs) ys (inl q) = inl q
@@ -110,35 +74,5 @@ linked-within s [] i j l m = absurd m
 linked-within s (x ∷ xs) i j l (inl q) = subst (λ (z : ℕ). z < length s) (sym q) l.1
 linked-within s (x ∷ xs) i j l (inr m) = linked-within s xs i j l.3 m
 
--- as many slots, of which the chain's hold what they held
-pub linked-frame : (s t : Slots) (xs : List Link) (i : ℕ) → length t ≡ length s → ((j : ℕ) → In j (slots_of xs) → get_or t j [] ≡ get_or s j []) →
-    Linked s xs i → Linked t xs i
-linked-frame s t [] i e f l = tt
-linked-frame s t (x ∷ xs) i e f l = (
-  l.0,
-  subst (λ (n : ℕ). x.slot < n) (sym e) l.1,
-  f x.slot (inl refl) ∙ l.2,
-  linked-frame s t xs i e (λ j m. f j (inr m)) l.3,
-)
-
--- ---- files that stand
-pub fits-same : (d : ℕ) (s t : Slots) → length t ≡ length s → countFits d s ≡ true → countFits d t ≡ true
-fits-same d s t e f = subst (λ (n : ℕ). (leb (slotsLeast d) n && leb n slotsMost) ≡ true) (sym e) f
-
-pub stands-frame : (k : Kit) (d : ℕ) (name : List ℕ) (issued : ℕ) (s t : Slots) (xs : List Link) → length t ≡ length s → get_or t 0 [] ≡ get_or s 0 [] →
-    ((j : ℕ) → In j (slots_of xs) → get_or t j [] ≡ get_or s j []) → Stands k d name issued s xs → Stands k d name issued t xs
-stands-frame k d name issued s t xs e h f st = record {
-  fits = fits-same d s t e st.fits;
-  head = h ∙ st.head;
-  links = linked-frame s t xs 0 e f st.links;
-  apart = st.apart;
-}
-
--- writes outside the head and the chain leave the file as it is
-pub stands-outside : (k : Kit) (d : ℕ) (name : List ℕ) (issued : ℕ) (s : Slots) (xs : List Link) (ws : List Write) →
-    ((j : ℕ) → In j (targets ws) → 0 < j) → ((j : ℕ) → In j (targets ws) → In j (slots_of xs) → ⊥) →
-    Stands k d name issued s xs → Stands k d name issued (stood s ws) xs
-stands-outside k d name issued s xs ws above off st =
-    stands-frame k d name issued s (stood s ws) xs (length-stood s ws)
-    (stood-other s ws 0 (λ m. let z : 0 < 0 = above 0 m in omega arith))
-    (λ j i. stood-other s ws j (λ m. off j m i)) st
+pub not-zero : (s : Slots) (xs : List Link) (i : ℕ) → Linked s xs i → In 0 (slots_of xs) → ⊥
+not-zero s xs i l m = let h = linked-above s xs i 0 l m in omega arith

@@ -6,8 +6,9 @@ use Rattle.refusal.specs.declared.Refusal.TheVariants.{NoFreeSlot}
 use Rattle.fault.specs.Faults.{placed}
 use Rattle.fault.specs.declared.Halt.{Halt}
 use Rattle.device.specs.Effects.{Slots}
-use Rattle.session.specs.Limits.{leastLength, mostLength}
+use Rattle.session.specs.Limits.{mostLength}
 use Rattle.session.specs.Records.{isRecord}
+use Rattle.session.proofs.Trip.{least as shortest, most}
 use Rattle.layout.specs.declared.Head.{Head}
 use Rattle.tree.specs.declared.Node.{Node}
 use Rattle.tree.specs.Nodes.{Covers}
@@ -28,35 +29,28 @@ use Rattle.rules.specs.Calls.{Sound, Outcome, countFits, readAs, read_by, sameBy
 use Rattle.rules.specs.Books.{Given, Book}
 use Rattle.rules.specs.Pasts.{Mode, running}
 use Rattle.law.specs.Law.{CoverLaw, Uncut, OnceLaw, RestBlank}
-use Rattle.law.proofs.Invariant.{headFor, Inv, ReadsBack}
-use Rattle.law.proofs.ReadsBack.{cover-link, nodes-are, as_many, link-of}
+use Rattle.law.proofs.Invariant.{headFor, Inv}
+use Rattle.law.proofs.ReadsBack.{reads-back, cover-link, nodes-are, as_many, link-of}
 use Rattle.law.proofs.TicketParts.{follow-long, same_self, heading-long, heading-in, sealed-in, name_in, number-in, ticket-long}
-
--- the bounds of a record's length
-abbrev pub AtLeast : Type 0
-AtLeast = (b : List ℕ) → isRecord b ≡ true → leastLength ≤ length b
-
-abbrev pub AtMost : Type 0
-AtMost = (b : List ℕ) → isRecord b ≡ true → length b ≤ mostLength
 
 -- the head that is read
 abbrev pub headIn : (k : Kit) (d : ℕ) (root name : List ℕ) (m : Mode) (s : Slots) (on : Bool) (b : Book) → Inv k d root name m s on b → Head
 headIn k d root name m s on b v = headFor k name b.issued (entry v.links 0)
 
-pub reads_so : ReadsBack → (k : Kit) (d : ℕ) (root name : List ℕ) (m : Mode) (s : Slots) (on : Bool) (b : Book) → d ≤ 16 → (v : Inv k d root name m s on b) →
+pub reads_so : (k : Kit) (d : ℕ) (root name : List ℕ) (m : Mode) (s : Slots) (on : Bool) (b : Book) → d ≤ 16 → (v : Inv k d root name m s on b) →
     fileOf d k.generator k.sealer s ≡ sound (headIn k d root name m s on b v) v.links
-reads_so reads k d root name m s on b l v = reads k d root name b.issued b.spent s v.links l v.stands v.named v.counted v.below v.covers
+reads_so k d root name m s on b l v = reads-back k d root name b.issued b.spent s v.links l v.stands v.named v.counted v.below v.covers
 
 pub sound-links : (g h : Head) (xs ys : List Link) → sound g xs ≡ sound h ys → xs ≡ ys
 sound-links g h xs ys e = cc
 
 -- ---- the chain is the cover
-pub cover-law : ReadsBack → (k : Kit) (d : ℕ) (root name : List ℕ) (m : Mode) (s : Slots) (on : Bool) (b : Book) → d ≤ 16 → Inv k d root name m s on b → CoverLaw k d root name s b
-cover-law reads k d root name m s on b l v =
+pub cover-law : (k : Kit) (d : ℕ) (root name : List ℕ) (m : Mode) (s : Slots) (on : Bool) (b : Book) → d ≤ 16 → Inv k d root name m s on b → CoverLaw k d root name s b
+cover-law k d root name m s on b l v =
     record {
       head = headIn k d root name m s on b v;
       links = v.links;
-      read = reads_so reads k d root name m s on b l v;
+      read = reads_so k d root name m s on b l v;
       counted = refl;
       named = refl;
       covers = v.covers;
@@ -68,21 +62,21 @@ cover-law reads k d root name m s on b l v =
     }
 
 -- a chain that is read is the one that stands, so the slots beside it are zero
-pub rest-read : ReadsBack → (k : Kit) (d : ℕ) (root name : List ℕ) (s : Slots) (on : Bool) (b : Book) → d ≤ 16 → Inv k d root name running s on b →
+pub rest-read : (k : Kit) (d : ℕ) (root name : List ℕ) (s : Slots) (on : Bool) (b : Book) → d ≤ 16 → Inv k d root name running s on b →
     (h : Head) (xs : List Link) → fileOf d k.generator k.sealer s ≡ sound h xs → RestBlank s xs
-rest-read reads k d root name s on b l v h xs e =
-    let q : v.links ≡ xs = sound-links (headIn k d root name running s on b v) h v.links xs (sym (reads_so reads k d root name running s on b l v) ∙ e) in
+rest-read k d root name s on b l v h xs e =
+    let q : v.links ≡ xs = sound-links (headIn k d root name running s on b v) h v.links xs (sym (reads_so k d root name running s on b l v) ∙ e) in
     subst (λ (ys : List Link). RestBlank s ys) q (v.rest refl)
 
 -- ---- its own
 -- a ticket given, whose number is unspent and lies under the node x of the cover
-module _ (reads : ReadsBack) (at_least_lem : AtLeast) (at_most : AtMost) (k : Kit) (lawful : Lawful k) (d : ℕ) (root name : List ℕ) (s : Slots) (on : Bool) (b : Book)
+module _ (k : Kit) (lawful : Lawful k) (d : ℕ) (root name : List ℕ) (s : Slots) (on : Bool) (b : Book)
     (deep : d ≤ 16) (v : Inv k d root name running s on b) (g : Given) (given : In g b.given) (x : Node) (here : In x (cover d b.spent)) (under : Covers d x g.number) where
   own_key : length (key_of k.expansion d root g.number) ≡ valueLength
   own_key = follow-long k lawful root (way d 0 g.number) v.rooted
 
   state-most : length g.state ≤ mostLength
-  state-most = at_most g.state (v.records g given)
+  state-most = most g.state (v.records g given)
 
   number_is : number_in g.ticket ≡ g.number
   number_is =
@@ -106,7 +100,7 @@ module _ (reads : ReadsBack) (at_least_lem : AtLeast) (at_most : AtMost) (k : Ki
       let e : length g.ticket ≡ headingLength + (length g.state + k.overhead) =
       ap length (v.tickets g given) ∙ ticket-long k name g.number (key_of k.expansion d root g.number) g.state v.named lawful own_key state-most in
       and_from (leb (ticketLeast k) (length g.ticket)) (leb (length g.ticket) (ticketLongest k))
-      (le-leb (ticketLeast k) (length g.ticket) (omega (arith, at_least_lem g.state (v.records g given))))
+      (le-leb (ticketLeast k) (length g.ticket) (omega (arith, shortest g.state (v.records g given))))
       (le-leb (length g.ticket) (ticketLongest k) (omega (arith, state-most)))
 
   was-issued : ltb (number_in g.ticket) b.issued ≡ true
@@ -117,7 +111,7 @@ module _ (reads : ReadsBack) (at_least_lem : AtLeast) (at_most : AtMost) (k : Ki
   file = (headIn k d root name running s on b v, v.links)
 
   read_is : read_by k d s on ≡ Ok file
-  read_is = ap (λ (p : Bool). read_by k d s p) (v.power refl) ∙ ap (readAs true) (reads_so reads k d root name running s on b deep v)
+  read_is = ap (λ (p : Bool). read_by k d s p) (v.power refl) ∙ ap (readAs true) (reads_so k d root name running s on b deep v)
 
   -- nothing stops its redemption before the chain is searched
   verdict-is : (room marks : ℕ) → mostLength ≤ room → roomOf (length s) ≤ marks → redeemVerdict k d s on g.ticket room marks ≡ Ok file
@@ -246,19 +240,19 @@ module _ (reads : ReadsBack) (at_least_lem : AtLeast) (at_most : AtMost) (k : Ki
       absurd (no_room tight room marks lr lm f front y back h ready.room)
 
 -- ---- too few free slots
-pub full-law : ReadsBack → AtLeast → AtMost → (k : Kit) (d : ℕ) (root name : List ℕ) (s : Slots) (on : Bool) (b : Book) → Lawful k → d ≤ 16 → Inv k d root name running s on b →
+pub full-law : (k : Kit) (d : ℕ) (root name : List ℕ) (s : Slots) (on : Bool) (b : Book) → Lawful k → d ≤ 16 → Inv k d root name running s on b →
     (g : Given) → In g b.given → (x : Node) → In x (cover d b.spent) → Covers d x g.number → length s - 1 - length (cover d b.spent) < d - x.depth →
     (room marks : ℕ) → mostLength ≤ room → roomOf (length s) ≤ marks →
     (r : Outcome) (state : List ℕ) (t : Slots) (on' joined : Bool) → Redeeming k d s on g.ticket room marks r state t on' joined → r ≡ Err (placed NoFreeSlot g.number)
-full-law reads at_least_lem at_most k d root name s on b lawful l v g given x here under tight = full-own reads at_least_lem at_most k lawful d root name s on b l v g given x here under tight
+full-law k d root name s on b lawful l v g given x here under tight = full-own k lawful d root name s on b l v g given x here under tight
 
 -- ---- once, and its own
-pub once-law : ReadsBack → AtLeast → AtMost → (k : Kit) (d : ℕ) (root name : List ℕ) (m : Mode) (s : Slots) (on : Bool) (b : Book) → Lawful k → d ≤ 16 →
+pub once-law : (k : Kit) (d : ℕ) (root name : List ℕ) (m : Mode) (s : Slots) (on : Bool) (b : Book) → Lawful k → d ≤ 16 →
     Inv k d root name m s on b → OnceLaw k d root name m s on b
-once-law reads at_least_lem at_most k d root name m s on b lawful l v =
+once-law k d root name m s on b lawful l v =
     record {
       once = v.once;
       tickets = v.tickets;
       opens = λ e g given unspent x here under free.
-          opens-own reads at_least_lem at_most k lawful d root name s on b l (subst (λ (z : Mode). Inv k d root name z s on b) e v) g given x here under free;
+          opens-own k lawful d root name s on b l (subst (λ (z : Mode). Inv k d root name z s on b) e v) g given x here under free;
     }

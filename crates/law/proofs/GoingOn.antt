@@ -20,10 +20,8 @@ use Rattle.rules.specs.Books.{Given, Book, freshBook, issue, redeem, reopen, fed
 use Rattle.rules.specs.Pasts.{Mode, running, cold, Past, issued, redeemed, reopened}
 use Rattle.law.specs.GoingOn.{IssueOutcome, RedeemOutcome, IsSealed, Opens, PastsGoOn}
 use Rattle.law.proofs.Invariant.{headFor, Inv}
-use Rattle.law.proofs.ReadsBack.{reads-back}
 use Rattle.law.proofs.TicketParts.{heading-in, sealed-in, number-in}
 use Rattle.law.proofs.Readings.{inv-file, inv-read, key-is}
-use Rattle.law.proofs.RedeemKeeps.{redeem-keeps}
 use Rattle.law.proofs.PastKeeps.{past-keeps}
 use Rattle.law.proofs.FromInv.{sound-links}
 use Rattle.law.proofs.Telling.{uncut-running}
@@ -32,10 +30,10 @@ use Rattle.law.proofs.Outcomes.{outcomes}
 small : treeLevels ≤ 16
 small = omega arith
 
-holding : (k : Kit) (root name : List ℕ) (m : Mode) (s : Slots) (on : Bool) (b : Book) → Past k treeLevels root name m s on b → Inv k treeLevels root name m s on b
-holding k root name m s on b p = past-keeps reads-back (redeem-keeps reads-back) k treeLevels root name m s on b small p
+pub holding : (k : Kit) (root name : List ℕ) (m : Mode) (s : Slots) (on : Bool) (b : Book) → Past k treeLevels root name m s on b → Inv k treeLevels root name m s on b
+holding k root name m s on b p = past-keeps k treeLevels root name m s on b small p
 
-begins : (k : Kit) (root name : List ℕ) (s : Slots) (on : Bool) → length root ≡ valueLength → length name ≡ nameLength →
+pub begins : (k : Kit) (root name : List ℕ) (s : Slots) (on : Bool) → length root ≡ valueLength → length name ≡ nameLength →
     slotsLeast treeLevels ≤ length s → length s ≤ slotsMost →
     (t : Slots) × Making k treeLevels s on root name (Ok tt) t true true × Past k treeLevels root name running t true freshBook
 begins k root name s on lr ln least most' =
@@ -49,7 +47,7 @@ module _ (k : Kit) (root name : List ℕ) (s : Slots) (on : Bool) (b : Book) (p 
   v : Inv k treeLevels root name running s on b
   v = holding k root name running s on b p
 
-  issues : (plain : List ℕ) (room marks : ℕ) →
+  pub issues : (plain : List ℕ) (room marks : ℕ) →
       (o : IssueOutcome k treeLevels s on plain room marks) × Past k treeLevels root name running o.after o.power (fed b (issue plain o.outcome o.ticket o.headed))
   issues plain room marks =
       let o = subst (λ (z : Bool). IssueOutcome k treeLevels s z plain room marks) (sym (v.power refl)) (outcomes.issue k treeLevels s plain room marks) in (
@@ -58,11 +56,11 @@ module _ (k : Kit) (root name : List ℕ) (s : Slots) (on : Bool) (b : Book) (p 
             (issued s on b plain room marks o.outcome o.ticket o.after o.power o.headed p o.call),
       )
 
-  redeems : (ticket : List ℕ) (room marks : ℕ) → Opens k (key_of k.expansion treeLevels root (number_in ticket)) ticket →
+  pub redeems : (ticket : List ℕ) (room marks : ℕ) → Opens k (key_of k.expansion treeLevels root (number_in ticket)) ticket →
       (o : RedeemOutcome k treeLevels s on ticket room marks) × Past k treeLevels root name running o.after o.power (fed b (redeem ticket o.outcome o.joined))
   redeems ticket room marks known =
       let n = number_in ticket in
-      let file = inv-file reads-back k treeLevels root name running s on b small v in
+      let file = inv-file k treeLevels root name running s on b small v in
       let told : (h : Head) (xs : List Link) (x : Link) → fileOf treeLevels k.generator k.sealer s ≡ sound h xs → In x xs → Covers treeLevels x.node n →
       Opens k (keyFrom k.expansion treeLevels x.node x.value n) ticket =
       λ h xs x e i c.
@@ -75,11 +73,17 @@ module _ (k : Kit) (root name : List ℕ) (s : Slots) (on : Bool) (b : Book) (p 
             (redeemed s on b ticket room marks o.outcome o.state o.after o.power o.joined p o.call),
       )
 
-  sealed : (g : Given) → In g b.given → IsSealed k (key_of k.expansion treeLevels root (number_in g.ticket)) g.ticket
+  -- the number of a ticket that was given
+  pub number-given : (g : Given) → In g b.given → number_in g.ticket ≡ g.number
+  number-given g i =
+      ap number_in (v.tickets g i)
+      ∙ number-in k name g.number (key_of k.expansion treeLevels root g.number) g.state v.named (omega (arith, v.issued g i, v.counted))
+
+  pub sealed : (g : Given) → In g b.given → IsSealed k (key_of k.expansion treeLevels root (number_in g.ticket)) g.ticket
   sealed g i =
       let key = key_of k.expansion treeLevels root g.number in
       let q = v.tickets g i in
-      let n : number_in g.ticket ≡ g.number = ap number_in q ∙ number-in k name g.number key g.state v.named (omega (arith, v.issued g i, v.counted)) in
+      let n = number-given g i in
       let h : headingIn g.ticket ≡ _ = ap headingIn q ∙ heading-in k name g.number key g.state v.named in
       let z : sealedIn g.ticket ≡ _ = ap sealedIn q ∙ sealed-in k name g.number key g.state v.named in (
         g.state,
@@ -96,7 +100,7 @@ reopens k root name s on b p marks enough =
     let verdict : reopenVerdict treeLevels s marks ≡ Ok tt =
     cond-true (leb (roomOf (length s)) marks) _ (Err (plainly ShortBuffer)) (le-leb (roomOf (length s)) marks enough)
     ∙ cond-true (countFits treeLevels s) (Ok tt) (Err (plainly SlotCount)) v.stands.fits in
-    let swept = Reopening.swept f verdict (inv-read reads-back k treeLevels root name cold s on b small v) refl refl refl in
+    let swept = Reopening.swept f verdict (inv-read k treeLevels root name cold s on b small v) refl refl refl in
     (t, swept, reopened s on b marks (Ok tt) t true p swept)
 
 pub pasts-go-on : PastsGoOn

@@ -1,19 +1,18 @@
--- What holds of a tree's slots and of its book after every past, and the lemmas that the law is put together from.
-use Rattle.std.proofs.Common.{◌≡◌, ℕ, ◌^◌, ◌<◌, ◌≤◌, Bool, true, List, [], ◌∷◌, map, length, get_or, Result}
+-- What holds of a tree's slots and of its book after every past.
+use Rattle.std.proofs.Common.{◌≡◌, ℕ, ◌^◌, ◌<◌, ◌≤◌, Bool, true, List, [], ◌∷◌, map, length, get_or}
 use Rattle.device.specs.Effects.{Slots}
-use Rattle.fault.specs.declared.Halt.{Halt}
 use Rattle.layout.specs.declared.Head.{Head}
 use Rattle.layout.specs.Records.{encodeHead}
 use Rattle.session.specs.Records.{isRecord}
 use Rattle.tree.specs.Cover.{In, Distinct}
 use Rattle.tree.specs.Values.{key_of, valuedCover}
-use Rattle.chain.specs.Reading.{Link, valuedOf, slots_of, fileOf, sound}
+use Rattle.chain.specs.Reading.{Link, valuedOf, slots_of}
 use Rattle.rules.specs.Kits.{Kit, valueLength, nameLength}
 use Rattle.rules.specs.Tickets.{ticketOf}
 use Rattle.rules.specs.Files.{entry, recordOf}
-use Rattle.rules.specs.Calls.{Outcome, countFits, Making, Issuing, Redeeming}
-use Rattle.rules.specs.Books.{Given, Book, freshBook, issue, redeem, fed}
-use Rattle.rules.specs.Pasts.{Mode, running, modeAfter, mode_of, Past}
+use Rattle.rules.specs.Calls.{countFits}
+use Rattle.rules.specs.Books.{Given, Book}
+use Rattle.rules.specs.Pasts.{Mode, running}
 use Rattle.law.specs.Law.{RestBlank}
 
 -- each link stands in its slot as a record that leads to the next, the last one on to i
@@ -47,27 +46,3 @@ pub record Inv (k : Kit) (d : ℕ) (root name : List ℕ) (m : Mode) (s : Slots)
   pub issued : (g : Given) → In g b.given → g.number < b.issued
   pub records : (g : Given) → In g b.given → isRecord g.state ≡ true
   pub tickets : (g : Given) → In g b.given → g.ticket ≡ ticketOf k name g.number (key_of k.expansion d root g.number) g.state
-
--- a file that stands, with a cover's chain, reads as itself
-abbrev pub ReadsBack : Type 0
-ReadsBack = (k : Kit) (d : ℕ) (root name : List ℕ) (issued : ℕ) (spent : List ℕ) (s : Slots) (xs : List Link) → d ≤ 16 →
-    Stands k d name issued s xs → length name ≡ nameLength → issued ≤ 2 ^ d → ((n : ℕ) → In n spent → n < issued) →
-    map valuedOf xs ≡ valuedCover k.expansion d root spent → fileOf d k.generator k.sealer s ≡ sound (headFor k name issued (entry xs 0)) xs
-
--- each call keeps what holds
-abbrev pub MakeKeeps : Type 0
-MakeKeeps = (k : Kit) (d : ℕ) (root name : List ℕ) (s : Slots) (on : Bool) (r : Result (Unit {0}) Halt) (t : Slots) (on' : Bool) →
-    length root ≡ valueLength → length name ≡ nameLength → Making k d s on root name r t on' true → Inv k d root name (mode_of r) t on' freshBook
-
-abbrev pub IssueKeeps : Type 0
-IssueKeeps = (k : Kit) (d : ℕ) (root name : List ℕ) (s : Slots) (on : Bool) (b : Book) (plain : List ℕ) (room marks : ℕ) (r : Outcome) (ticket : List ℕ) (t : Slots) (on' headed : Bool) →
-    d ≤ 16 → Inv k d root name running s on b → Issuing k d s on plain room marks r ticket t on' headed →
-    Inv k d root name (modeAfter r) t on' (fed b (issue plain r ticket headed))
-
-abbrev pub RedeemKeeps : Type 0
-RedeemKeeps = (k : Kit) (d : ℕ) (root name : List ℕ) (s : Slots) (on : Bool) (b : Book) (ticket : List ℕ) (room marks : ℕ) (r : Outcome) (state : List ℕ) (t : Slots) (on' joined : Bool) →
-    d ≤ 16 → Inv k d root name running s on b → Redeeming k d s on ticket room marks r state t on' joined →
-    Inv k d root name (modeAfter r) t on' (fed b (redeem ticket r joined))
-
-abbrev pub PastKeeps : Type 0
-PastKeeps = (k : Kit) (d : ℕ) (root name : List ℕ) (m : Mode) (s : Slots) (on : Bool) (b : Book) → d ≤ 16 → Past k d root name m s on b → Inv k d root name m s on b

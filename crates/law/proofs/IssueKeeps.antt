@@ -17,12 +17,13 @@ use Rattle.rules.specs.Tickets.{ticketOf}
 use Rattle.steps.specs.OneStep.{Write}
 use Rattle.steps.specs.Writes.{stood, CutShort}
 use Rattle.rules.specs.Files.{entry, recounted, issueWrite}
-use Rattle.rules.specs.Calls.{Sound, Outcome, read_by, issuedTicket, issueVerdict, declined, cut, given}
+use Rattle.rules.specs.Calls.{Sound, Outcome, read_by, issuedTicket, issueVerdict, Issuing, declined, cut, given}
 use Rattle.rules.specs.Books.{Given, Book, raised, issue, fed}
 use Rattle.rules.specs.Pasts.{Mode, running, cold, modeAfter}
 use Rattle.law.specs.Law.{RestBlank}
-use Rattle.law.proofs.Invariant.{headFor, Stands, Inv, ReadsBack, IssueKeeps}
-use Rattle.law.proofs.Frames.{count-least, count_kept, not-zero, linked-frame}
+use Rattle.law.proofs.Invariant.{headFor, Stands, Inv}
+use Rattle.law.proofs.Frames.{count-least, count_kept, linked-set}
+use Rattle.law.proofs.Chains.{not-zero}
 use Rattle.law.proofs.Readings.{cold-not-running, inv-read, key-is, MayIssue, issue-ok, still, cooled}
 
 -- ---- the head with one more number issued
@@ -39,7 +40,7 @@ stands-recounted k d name n s xs v =
     record {
       fits = count_kept d s (set s 0 b) (length-set s 0 b) v.fits;
       head = get_or-set_same s 0 b [] z ∙ (ap (recounted (n + 1)) v.head ∙ recounted-head k d name n (entry xs 0) (n + 1));
-      links = linked-frame s xs 0 0 b (not-zero s xs 0 v.links) v.links;
+      links = linked-set s xs 0 0 b (not-zero s xs 0 v.links) v.links;
       apart = v.apart;
     }
 
@@ -94,14 +95,14 @@ alone w c (u ∷ front) back e =
     let n = length-append front (c ∷ back) in
     omega arith
 
-module _ (reads : ReadsBack) (k : Kit) (d : ℕ) (root name : List ℕ) (s : Slots) (on : Bool) (b : Book) (plain : List ℕ) (room marks : ℕ)
+module _ (k : Kit) (d : ℕ) (root name : List ℕ) (s : Slots) (on : Bool) (b : Book) (plain : List ℕ) (room marks : ℕ)
     (small : d ≤ 16) (v : Inv k d root name running s on b) (f : Sound) (verdict : issueVerdict k d s on plain room marks ≡ Ok f) where
   g : Sound
   g = (headFor k name b.issued (entry v.links 0), v.links)
 
   may : MayIssue d g f plain
   unfolding g
-  may = issue-ok k d s on plain room marks f g (subst (λ (o : Bool). read_by k d s o ≡ Ok g) (sym (v.power refl)) (inv-read reads k d root name running s on b small v)) verdict
+  may = issue-ok k d s on plain room marks f g (subst (λ (o : Bool). read_by k d s o ≡ Ok g) (sym (v.power refl)) (inv-read k d root name running s on b small v)) verdict
 
   after : Slots
   after = set s 0 (recounted (b.issued + 1) (get_or s 0 []))
@@ -165,18 +166,20 @@ module _ (reads : ReadsBack) (k : Kit) (d : ℕ) (root name : List ℕ) (s : Slo
       counts running true (new ∷ b.given) (λ e. refl)
       (λ n j. elim j [ inl e ↦ subst (λ (q : Given). Own k d root name (b.issued + 1) q) (sym e) own | inr l ↦ owned k d root name running s on b v n l ])
 
-pub issue-keeps : (reads : ReadsBack) → IssueKeeps
-issue-keeps reads k d root name s on b plain room marks r ticket t on' headed small v (declined h verdict e u q) =
+pub issue-keeps : (k : Kit) (d : ℕ) (root name : List ℕ) (s : Slots) (on : Bool) (b : Book) (plain : List ℕ) (room marks : ℕ) (r : Outcome) (ticket : List ℕ) (t : Slots) (on' headed : Bool) →
+    d ≤ 16 → Inv k d root name running s on b → Issuing k d s on plain room marks r ticket t on' headed →
+    Inv k d root name (modeAfter r) t on' (fed b (issue plain r ticket headed))
+issue-keeps k d root name s on b plain room marks r ticket t on' headed small v (declined h verdict e u q) =
     subst₃ (λ (r : Outcome) (t : Slots) (headed : Bool). Inv k d root name (modeAfter r) t on' (fed b (issue plain r ticket headed))) (sym e) (sym u.slots) (sym q)
     (subst (λ (o : Bool). Inv k d root name (modeAfter (Err h)) s o b) (sym u.power) (still k d root name s on b (modeAfter (Err h)) v))
-issue-keeps reads k d root name s on b plain room marks r ticket t on' headed small v (cut f m h verdict c e p z q) =
+issue-keeps k d root name s on b plain room marks r ticket t on' headed small v (cut f m h verdict c e p z q) =
     subst₂ (λ (r : Outcome) (headed : Bool). Inv k d root name (modeAfter r) t on' (fed b (issue plain r ticket headed))) (sym e) (sym q)
-    (stopped reads k d root name s on b plain room marks small v f verdict m h t on' ticket c)
-issue-keeps reads k d root name s on b plain room marks r ticket t on' headed small v (given f x verdict i c e q w p l) =
+    (stopped k d root name s on b plain room marks small v f verdict m h t on' ticket c)
+issue-keeps k d root name s on b plain room marks r ticket t on' headed small v (given f x verdict i c e q w p l) =
     let steps = e.calls in
     let T = issuedTicket k d f.0 x plain in
-    let a = handed reads k d root name s on b plain room marks small v f verdict x i c steps in
-    let t-is = w ∙ wrote reads k d root name s on b plain room marks small v f verdict in
+    let a = handed k d root name s on b plain room marks small v f verdict x i c steps in
+    let t-is = w ∙ wrote k d root name s on b plain room marks small v f verdict in
     subst₂ (λ (r : Outcome) (t : Slots). Inv k d root name (modeAfter r) t on' (fed b (issue plain r ticket headed))) (sym e.is) (sym t-is)
-    (subst₃ (λ (o : Bool) (buffer : List ℕ) (headed : Bool). Inv k d root name running (after reads k d root name s on b plain room marks small v f verdict) o (fed b (issue plain (Ok (length T, steps)) buffer headed)))
+    (subst₃ (λ (o : Bool) (buffer : List ℕ) (headed : Bool). Inv k d root name running (after k d root name s on b plain room marks small v f verdict) o (fed b (issue plain (Ok (length T, steps)) buffer headed)))
     (sym p) (sym q) (sym l) a)

@@ -1,5 +1,4 @@
 pub mod Invariant
-pub mod NoTwins
 pub mod ReadsBack
 pub mod TicketParts
 pub mod FromInv
@@ -18,4 +17,5 @@ pub mod Alike
 pub mod LawHolds
 pub mod Outcomes
 pub mod GoingOn
+pub mod NarrowPast
 pub mod Worked

@@ -18,8 +18,9 @@ use Rattle.rules.specs.Calls.{countFits, Making, declined, stopped, cut, made}
 use Rattle.rules.specs.Books.{freshBook}
 use Rattle.rules.specs.Pasts.{Mode, running, cold, mode_of}
 use Rattle.law.specs.Law.{RestBlank}
-use Rattle.law.proofs.Invariant.{Stands, Inv, MakeKeeps}
-use Rattle.law.proofs.Frames.{length-stood, stood-append, Unnamed, stood-other, count-least, count_kept}
+use Rattle.law.proofs.Invariant.{Stands, Inv}
+use Rattle.steps.proofs.Plans.{length-stood, stood-append}
+use Rattle.law.proofs.Frames.{Unnamed, stood-other, count-least, count_kept}
 use Rattle.law.proofs.Readings.{cold-not-running}
 use Rattle.law.proofs.ReopenKeeps.{Whole, Definite, whole_set}
 
@@ -41,7 +42,7 @@ blank-at (suc n) i j s a b c =
       | inl q ↦
           let o : Unnamed j (blankWrites (suc i) n) = λ w m e. let h = blanks-from n (suc i) w m in omega (arith, e) in
           let g : get_or (set s i blank) j [] ≡ blank = subst (λ (k : ℕ). get_or (set s i blank) k [] ≡ blank) (sym q) (get_or-set_same s i blank [] (subst (λ (k : ℕ). k < length s) q c)) in
-          stood-other (blankWrites (suc i) n) (set s i blank) j o ∙ g
+          stood-other (set s i blank) (blankWrites (suc i) n) j o ∙ g
       | inr q ↦ blank-at n (suc i) j (set s i blank) (omega (arith, q)) (omega arith) (omega arith)
     ]
 
@@ -64,12 +65,12 @@ module _ (k : Kit) (d : ℕ) (s : Slots) (root name : List ℕ) (fits : countFit
 
   wrote : stood s (makeWrites k d s root name) ≡ after
   unfolding after zeroed
-  wrote = stood-append (blankWrites 0 (length s))
-      (record { slot = 1; bytes = rootRecord root; step = Make } ∷ record { slot = 0; bytes = encodeHead d (firstHead k name); step = Make } ∷ []) s
+  wrote = stood-append s (blankWrites 0 (length s))
+      (record { slot = 1; bytes = rootRecord root; step = Make } ∷ record { slot = 0; bytes = encodeHead d (firstHead k name); step = Make } ∷ [])
 
   length-zeroed : length zeroed ≡ length s
   unfolding zeroed
-  length-zeroed = length-stood (blankWrites 0 (length s)) s
+  length-zeroed = length-stood s (blankWrites 0 (length s))
 
   length-after : length after ≡ length s
   unfolding after
@@ -166,5 +167,6 @@ make-holds k d root name s on r t on' lr ln (made f w e p q) =
     subst₂ (λ (r : Result (Unit {0}) Halt) (t : Slots). Inv k d root name (mode_of r) t on' freshBook × Whole t) (sym e) (sym z)
     (begun k d s root name f running on' lr ln (λ i. p), after-whole k d s root name f)
 
-pub make-keeps : MakeKeeps
+pub make-keeps : (k : Kit) (d : ℕ) (root name : List ℕ) (s : Slots) (on : Bool) (r : Result (Unit {0}) Halt) (t : Slots) (on' : Bool) →
+    length root ≡ valueLength → length name ≡ nameLength → Making k d s on root name r t on' true → Inv k d root name (mode_of r) t on' freshBook
 make-keeps k d root name s on r t on' lr ln h = (make-holds k d root name s on r t on' lr ln h).0

@@ -32,8 +32,8 @@ use Rattle.rules.specs.Calls.{Sound, readAs, read_by, countFits, sameBytes, Unto
 use Rattle.rules.specs.Pasts.{isNoPower}
 use Rattle.law.specs.Law.{Uncut}
 use Rattle.law.specs.GoingOn.{MakeOutcome, ReopenOutcome, IssueOutcome, RedeemOutcome, Opens, CallsHaveOutcomes}
-use Rattle.law.proofs.Frames.{in_take, in_map}
-use Rattle.law.proofs.ReadsBack.{link-of}
+use Rattle.law.proofs.Frames.{in_take}
+use Rattle.law.proofs.ReadsBack.{in_map, link-of}
 use Rattle.law.proofs.Readings.{cond-ok, ok_same}
 
 -- ---- what stops a call while the power is on

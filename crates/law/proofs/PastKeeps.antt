@@ -14,9 +14,10 @@ use Rattle.rules.specs.Calls.{Sound, Outcome, read_by, newLinks, Hit, Issuing, R
 use Rattle.rules.specs.Tickets.{number_in}
 use Rattle.rules.specs.Books.{Book}
 use Rattle.rules.specs.Pasts.{Mode, running, cold, Past, made, issued, redeemed, closed, reopened}
-use Rattle.law.proofs.Invariant.{Linked, headFor, Inv, ReadsBack, RedeemKeeps, PastKeeps}
+use Rattle.law.proofs.Invariant.{Linked, headFor, Inv}
 use Rattle.law.proofs.Frames.{in_take}
 use Rattle.law.proofs.Readings.{inv-read, redeem-ok, cooled}
+use Rattle.law.proofs.RedeemKeeps.{redeem-keeps}
 use Rattle.law.proofs.IssueKeeps.{issue-keeps}
 use Rattle.law.proofs.ReopenKeeps.{Whole, Definite, whole-stood, reopen-holds}
 use Rattle.law.proofs.MakeKeeps.{node-definite, make-holds}
@@ -101,52 +102,52 @@ module _ (k : Kit) (d : ℕ) (root name : List ℕ) (s : Slots) (on : Bool) (b :
       ]
 
 -- the chain that a redemption found is the one that stands
-pub hit-chain : (reads : ReadsBack) (k : Kit) (d : ℕ) (root name : List ℕ) (s : Slots) (on : Bool) (b : Book) (ticket : List ℕ) (room marks : ℕ)
+pub hit-chain : (k : Kit) (d : ℕ) (root name : List ℕ) (s : Slots) (on : Bool) (b : Book) (ticket : List ℕ) (room marks : ℕ)
     (f : Sound) (front : List Link) (x : Link) (back : List Link) → d ≤ 16 → (v : Inv k d root name running s on b) →
     Hit k d s on ticket room marks f front x back → v.links ≡ front ++ (x ∷ back)
-hit-chain reads k d root name s on b ticket room marks f front x back small v h =
+hit-chain k d root name s on b ticket room marks f front x back small v h =
     let g : Sound = (headFor k name b.issued (entry v.links 0), v.links) in
-    let e : read_by k d s on ≡ Ok g = subst (λ (o : Bool). read_by k d s o ≡ Ok g) (sym (v.power refl)) (inv-read reads k d root name running s on b small v) in
+    let e : read_by k d s on ≡ Ok g = subst (λ (o : Bool). read_by k d s o ≡ Ok g) (sym (v.power refl)) (inv-read k d root name running s on b small v) in
     let may = redeem-ok k d s on ticket room marks f g e h.verdict in
     sym (ap (λ (p : Sound). p.1) may.file) ∙ h.chain
 
-pub redeem-whole : (reads : ReadsBack) (k : Kit) (d : ℕ) (root name : List ℕ) (s : Slots) (on : Bool) (b : Book) (ticket : List ℕ) (room marks : ℕ) (r : Outcome) (state : List ℕ) (t : Slots) (on' joined : Bool) →
+pub redeem-whole : (k : Kit) (d : ℕ) (root name : List ℕ) (s : Slots) (on : Bool) (b : Book) (ticket : List ℕ) (room marks : ℕ) (r : Outcome) (state : List ℕ) (t : Slots) (on' joined : Bool) →
     d ≤ 16 → Inv k d root name running s on b → Whole s → Redeeming k d s on ticket room marks r state t on' joined → Whole t
-redeem-whole reads k d root name s on b ticket room marks r state t on' joined small v w (Redeeming.declined h verdict e u q) = subst Whole (sym u.slots) w
-redeem-whole reads k d root name s on b ticket room marks r state t on' joined small v w (spent f verdict n e u q) = subst Whole (sym u.slots) w
-redeem-whole reads k d root name s on b ticket room marks r state t on' joined small v w (shut f front x back hit n e u q) = subst Whole (sym u.slots) w
-redeem-whole reads k d root name s on b ticket room marks r state t on' joined small v w (strange f front x back plain hit sl n e u q) = subst Whole (sym u.slots) w
-redeem-whole reads k d root name s on b ticket room marks r state t on' joined small v w (full f front x back plain hit sl n l e u q) = subst Whole (sym u.slots) w
-redeem-whole reads k d root name s on b ticket room marks r state t on' joined small v w (Redeeming.cut f front x back plain fs m h hit sl ready c e p z q) =
-    let chain = hit-chain reads k d root name s on b ticket room marks f front x back small v hit in
+redeem-whole k d root name s on b ticket room marks r state t on' joined small v w (Redeeming.declined h verdict e u q) = subst Whole (sym u.slots) w
+redeem-whole k d root name s on b ticket room marks r state t on' joined small v w (spent f verdict n e u q) = subst Whole (sym u.slots) w
+redeem-whole k d root name s on b ticket room marks r state t on' joined small v w (shut f front x back hit n e u q) = subst Whole (sym u.slots) w
+redeem-whole k d root name s on b ticket room marks r state t on' joined small v w (strange f front x back plain hit sl n e u q) = subst Whole (sym u.slots) w
+redeem-whole k d root name s on b ticket room marks r state t on' joined small v w (full f front x back plain hit sl n l e u q) = subst Whole (sym u.slots) w
+redeem-whole k d root name s on b ticket room marks r state t on' joined small v w (Redeeming.cut f front x back plain fs m h hit sl ready c e p z q) =
+    let chain = hit-chain k d root name s on b ticket room marks f front x back small v hit in
     let new = newLinks k d x (number_in ticket) fs in
     let ws = redeemWrites s front x back new in
     subst Whole (sym c.slots) (whole-stood (take m ws) s (λ u i. redeem-definite k d root name s on b v front x back new chain u (in_take u m ws i)) w)
-redeem-whole reads k d root name s on b ticket room marks r state t on' joined small v w (opened f front x back plain fs hit sl ready z p q e l) =
-    let chain = hit-chain reads k d root name s on b ticket room marks f front x back small v hit in
+redeem-whole k d root name s on b ticket room marks r state t on' joined small v w (opened f front x back plain fs hit sl ready z p q e l) =
+    let chain = hit-chain k d root name s on b ticket room marks f front x back small v hit in
     let new = newLinks k d x (number_in ticket) fs in
     subst Whole (sym z) (whole-stood (redeemWrites s front x back new) s (redeem-definite k d root name s on b v front x back new chain) w)
 
 -- ---- every past
-pub past-holds : (reads : ReadsBack) (redeems : RedeemKeeps) (k : Kit) (d : ℕ) (root name : List ℕ) (m : Mode) (s : Slots) (on : Bool) (b : Book) → d ≤ 16 →
+pub past-holds : (k : Kit) (d : ℕ) (root name : List ℕ) (m : Mode) (s : Slots) (on : Bool) (b : Book) → d ≤ 16 →
     Past k d root name m s on b → Inv k d root name m s on b × Whole s
-past-holds reads redeems k d root name m s on b small (made s₀ on₀ r t on' lr ln mk) = make-holds k d root name s₀ on₀ r t on' lr ln mk
-past-holds reads redeems k d root name m s on b small (issued s₀ on₀ b₀ plain room marks r ticket t on' headed p i) =
-    let h = past-holds reads redeems k d root name running s₀ on₀ b₀ small p in (
-      issue-keeps reads k d root name s₀ on₀ b₀ plain room marks r ticket t on' headed small h.0 i,
+past-holds k d root name m s on b small (made s₀ on₀ r t on' lr ln mk) = make-holds k d root name s₀ on₀ r t on' lr ln mk
+past-holds k d root name m s on b small (issued s₀ on₀ b₀ plain room marks r ticket t on' headed p i) =
+    let h = past-holds k d root name running s₀ on₀ b₀ small p in (
+      issue-keeps k d root name s₀ on₀ b₀ plain room marks r ticket t on' headed small h.0 i,
       issue-whole k d root name s₀ on₀ b₀ plain room marks r ticket t on' headed h.0 h.1 i,
     )
-past-holds reads redeems k d root name m s on b small (redeemed s₀ on₀ b₀ ticket room marks r state t on' joined p i) =
-    let h = past-holds reads redeems k d root name running s₀ on₀ b₀ small p in (
-      redeems k d root name s₀ on₀ b₀ ticket room marks r state t on' joined small h.0 i,
-      redeem-whole reads k d root name s₀ on₀ b₀ ticket room marks r state t on' joined small h.0 h.1 i,
+past-holds k d root name m s on b small (redeemed s₀ on₀ b₀ ticket room marks r state t on' joined p i) =
+    let h = past-holds k d root name running s₀ on₀ b₀ small p in (
+      redeem-keeps k d root name s₀ on₀ b₀ ticket room marks r state t on' joined small h.0 i,
+      redeem-whole k d root name s₀ on₀ b₀ ticket room marks r state t on' joined small h.0 h.1 i,
     )
-past-holds reads redeems k d root name m s on b small (closed s₀ on₀ b₀ p) =
-    let h = past-holds reads redeems k d root name running s₀ on₀ b₀ small p in
+past-holds k d root name m s on b small (closed s₀ on₀ b₀ p) =
+    let h = past-holds k d root name running s₀ on₀ b₀ small p in
     (cooled k d root name running s₀ on₀ on₀ b₀ h.0, h.1)
-past-holds reads redeems k d root name m s on b small (reopened s₀ on₀ b₀ marks r t on' p i) =
-    let h = past-holds reads redeems k d root name cold s₀ on₀ b₀ small p in
-    reopen-holds reads k d root name s₀ on₀ b₀ marks r t on' small h.1 h.0 i
+past-holds k d root name m s on b small (reopened s₀ on₀ b₀ marks r t on' p i) =
+    let h = past-holds k d root name cold s₀ on₀ b₀ small p in
+    reopen-holds k d root name s₀ on₀ b₀ marks r t on' small h.1 h.0 i
 
-pub past-keeps : ReadsBack → RedeemKeeps → PastKeeps
-past-keeps reads redeems k d root name m s on b small p = (past-holds reads redeems k d root name m s on b small p).0
+pub past-keeps : (k : Kit) (d : ℕ) (root name : List ℕ) (m : Mode) (s : Slots) (on : Bool) (b : Book) → d ≤ 16 → Past k d root name m s on b → Inv k d root name m s on b
+past-keeps k d root name m s on b small p = (past-holds k d root name m s on b small p).0

@@ -23,8 +23,8 @@ use Rattle.rules.specs.Calls.{Sound, readAs, read_by, countFits, sameBytes, issu
 use Rattle.rules.specs.Books.{Book}
 use Rattle.rules.specs.Pasts.{Mode, running, cold}
 use Rattle.law.specs.Law.{RestBlank}
-use Rattle.law.proofs.Invariant.{headFor, Stands, Inv, ReadsBack}
-use Rattle.law.proofs.Frames.{in_map}
+use Rattle.law.proofs.Invariant.{headFor, Stands, Inv}
+use Rattle.law.proofs.ReadsBack.{in_map, reads-back}
 
 -- ---- modes
 abbrev IsCold : Mode → Type 0
@@ -35,10 +35,10 @@ pub cold-not-running : cold ≡ running → ⊥
 cold-not-running e = subst IsCold e tt
 
 -- ---- the file
-module _ (reads : ReadsBack) (k : Kit) (d : ℕ) (root name : List ℕ) (m : Mode) (s : Slots) (on : Bool) (b : Book) (small : d ≤ 16) (v : Inv k d root name m s on b) where
+module _ (k : Kit) (d : ℕ) (root name : List ℕ) (m : Mode) (s : Slots) (on : Bool) (b : Book) (small : d ≤ 16) (v : Inv k d root name m s on b) where
   -- what stands is read
   pub inv-file : fileOf d k.generator k.sealer s ≡ sound (headFor k name b.issued (entry v.links 0)) v.links
-  inv-file = reads k d root name b.issued b.spent s v.links small v.stands v.named v.counted v.below v.covers
+  inv-file = reads-back k d root name b.issued b.spent s v.links small v.stands v.named v.counted v.below v.covers
 
   pub inv-read : read_by k d s true ≡ Ok (headFor k name b.issued (entry v.links 0), v.links)
   inv-read = ap (readAs true) inv-file

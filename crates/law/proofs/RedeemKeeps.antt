@@ -26,8 +26,9 @@ use Rattle.rules.specs.Calls.{Sound, Outcome, countFits, readAs, read_by, sameBy
 use Rattle.rules.specs.Books.{Book, redeem, fed}
 use Rattle.rules.specs.Pasts.{Mode, running, cold, modeAfter}
 use Rattle.law.specs.Law.{RestBlank}
-use Rattle.law.proofs.Invariant.{headFor, Stands, Inv, ReadsBack, RedeemKeeps}
+use Rattle.law.proofs.Invariant.{headFor, Stands, Inv}
 use Rattle.law.proofs.Chains.{valued-of-append}
+use Rattle.law.proofs.ReadsBack.{reads-back}
 use Rattle.law.proofs.Splice.{links-slots, links-valued, length-links, length-writes, unjoined, joins, erases, rest-blank}
 
 -- ---- what a verdict says
@@ -39,11 +40,11 @@ pub ok_same : (f g : Sound) → ◌≡◌ {A = Result Sound Halt} (Ok f) (Ok g) 
 ok_same f g q = cc
 
 -- a redemption that passes read the file that stands, and its number is issued
-pub passed : (reads : ReadsBack) (k : Kit) (d : ℕ) (root name : List ℕ) (s : Slots) (on : Bool) (b : Book) (ticket : List ℕ) (room marks : ℕ) (f : Sound) → d ≤ 16 →
+pub passed : (k : Kit) (d : ℕ) (root name : List ℕ) (s : Slots) (on : Bool) (b : Book) (ticket : List ℕ) (room marks : ℕ) (f : Sound) → d ≤ 16 →
     (v : Inv k d root name running s on b) → redeemVerdict k d s on ticket room marks ≡ Ok f → (f.1 ≡ v.links) × (number_in ticket < b.issued)
-passed reads k d root name s on b ticket room marks f small v q =
+passed k d root name s on b ticket room marks f small v q =
     let n = number_in ticket in
-    let file = reads k d root name b.issued b.spent s v.links small v.stands v.named v.counted v.below v.covers in
+    let file = reads-back k d root name b.issued b.spent s v.links small v.stands v.named v.counted v.below v.covers in
     let g : Sound = (headFor k name b.issued (entry v.links 0), v.links) in
     let seen : read_by k d s on ≡ Ok g =
     ap (λ (o : Bool). readAs o (fileOf d k.generator k.sealer s)) (v.power refl) ∙ ap (λ (y : File). readAs true y) file in
@@ -82,17 +83,17 @@ in-cover g d v spent x u front back q =
     subst (λ (l : List Node). In x l) (sym c.was) (in_right x c.before (x ∷ c.after) (inl refl))
 
 -- a redemption that passes, hits x and is ready, has such a spot
-pub spot : (reads : ReadsBack) (k : Kit) (d : ℕ) (root name : List ℕ) (s : Slots) (on : Bool) (b : Book) (ticket : List ℕ) (room marks : ℕ)
+pub spot : (k : Kit) (d : ℕ) (root name : List ℕ) (s : Slots) (on : Bool) (b : Book) (ticket : List ℕ) (room marks : ℕ)
     (f : Sound) (front : List Link) (x : Link) (back : List Link) (plain fs : List ℕ) → d ≤ 16 → Inv k d root name running s on b →
     Hit k d s on ticket room marks f front x back → Ready k d s f x plain fs →
     PunctureSpot k d root name s b (number_in ticket) front x back (newLinks k d x (number_in ticket) fs)
-spot reads k d root name s on b ticket room marks f front x back plain fs small v hit ready =
+spot k d root name s on b ticket room marks f front x back plain fs small v hit ready =
     let n = number_in ticket in
     let g = k.expansion in
     let ys = siblingsFrom d x.node n in
     let vs = valued (valueFrom g d x.node x.value) ys in
     let new = linksIn fs vs in
-    let p = passed reads k d root name s on b ticket room marks f small v hit.verdict in
+    let p = passed k d root name s on b ticket room marks f small v hit.verdict in
     let e : v.links ≡ front ++ (x ∷ back) = sym p.0 ∙ hit.chain in
     let c : map valuedOf (front ++ (x ∷ back)) ≡ valuedCover g d root b.spent =
     subst (λ (l : List Link). map valuedOf l ≡ valuedCover g d root b.spent) e v.covers in
@@ -242,20 +243,22 @@ whole k d root name s on b ticket r t on' joined front x back new a v p e o j q 
     (λ z. refl) (λ z. rest-blank k d name b.issued s front x back new p.stands p.low p.high p.off p.apart p.rest)
     (λ m. p.fresh (v.opened n m), v.once) (λ i m. elim m [ inl z ↦ inl z | inr z ↦ inr (v.opened i z) ]))
 
-pub redeem-keeps : (reads : ReadsBack) → RedeemKeeps
-redeem-keeps reads k d root name s on b ticket room marks r state t on' joined small v (Redeeming.declined h q e u j) =
+pub redeem-keeps : (k : Kit) (d : ℕ) (root name : List ℕ) (s : Slots) (on : Bool) (b : Book) (ticket : List ℕ) (room marks : ℕ) (r : Outcome) (state : List ℕ) (t : Slots) (on' joined : Bool) →
+    d ≤ 16 → Inv k d root name running s on b → Redeeming k d s on ticket room marks r state t on' joined →
+    Inv k d root name (modeAfter r) t on' (fed b (redeem ticket r joined))
+redeem-keeps k d root name s on b ticket room marks r state t on' joined small v (Redeeming.declined h q e u j) =
     refused k d root name s on b ticket room r state t on' joined h v e u j
-redeem-keeps reads k d root name s on b ticket room marks r state t on' joined small v (Redeeming.spent f q none e u j) =
+redeem-keeps k d root name s on b ticket room marks r state t on' joined small v (Redeeming.spent f q none e u j) =
     refused k d root name s on b ticket room r state t on' joined (placed Spent (number_in ticket)) v e u j
-redeem-keeps reads k d root name s on b ticket room marks r state t on' joined small v (Redeeming.shut f front x back hit broken e u j) =
+redeem-keeps k d root name s on b ticket room marks r state t on' joined small v (Redeeming.shut f front x back hit broken e u j) =
     refused k d root name s on b ticket room r state t on' joined (placed SealBroken (number_in ticket)) v e u j
-redeem-keeps reads k d root name s on b ticket room marks r state t on' joined small v (Redeeming.strange f front x back plain hit seals odd e u j) =
+redeem-keeps k d root name s on b ticket room marks r state t on' joined small v (Redeeming.strange f front x back plain hit seals odd e u j) =
     refused k d root name s on b ticket room r state t on' joined (placed OpenedNotARecord (number_in ticket)) v e u j
-redeem-keeps reads k d root name s on b ticket room marks r state t on' joined small v (Redeeming.full f front x back plain hit seals good few e u j) =
+redeem-keeps k d root name s on b ticket room marks r state t on' joined small v (Redeeming.full f front x back plain hit seals good few e u j) =
     refused k d root name s on b ticket room r state t on' joined (placed NoFreeSlot (number_in ticket)) v e u j
-redeem-keeps reads k d root name s on b ticket room marks r state t on' joined small v (Redeeming.cut f front x back plain fs m h hit seals ready c e o z j) =
+redeem-keeps k d root name s on b ticket room marks r state t on' joined small v (Redeeming.cut f front x back plain fs m h hit seals ready c e o z j) =
     cut_short k d root name s on b ticket r t on' joined front x back (newLinks k d x (number_in ticket) fs) m h v
-    (spot reads k d root name s on b ticket room marks f front x back plain fs small v hit ready) c e o j
-redeem-keeps reads k d root name s on b ticket room marks r state t on' joined small v (Redeeming.opened f front x back plain fs hit seals ready q o j e z) =
+    (spot k d root name s on b ticket room marks f front x back plain fs small v hit ready) c e o j
+redeem-keeps k d root name s on b ticket room marks r state t on' joined small v (Redeeming.opened f front x back plain fs hit seals ready q o j e z) =
     whole k d root name s on b ticket r t on' joined front x back (newLinks k d x (number_in ticket) fs) (length plain, e.calls) v
-    (spot reads k d root name s on b ticket room marks f front x back plain fs small v hit ready) q o j e.is
+    (spot k d root name s on b ticket room marks f front x back plain fs small v hit ready) q o j e.is

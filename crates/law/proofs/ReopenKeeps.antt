@@ -17,8 +17,9 @@ use Rattle.rules.specs.Calls.{Sound, Reopening, declined, stopped, faulty, cut, 
 use Rattle.rules.specs.Books.{Book}
 use Rattle.rules.specs.Pasts.{running, cold, mode_of}
 use Rattle.law.specs.Law.{RestBlank}
-use Rattle.law.proofs.Invariant.{headFor, Inv, ReadsBack}
-use Rattle.law.proofs.Frames.{in_take, length-stood, stood-append, Unnamed, stood-other, count-least, Aside, aside-take, stands-aside}
+use Rattle.law.proofs.Invariant.{headFor, Inv}
+use Rattle.steps.proofs.Plans.{length-stood, stood-append}
+use Rattle.law.proofs.Frames.{in_take, Unnamed, stood-other, count-least, Aside, aside-take, stands-aside}
 use Rattle.law.proofs.Readings.{cold-not-running, ok_same, inv-read, moved, cooled}
 
 -- ---- slots of zeros
@@ -108,13 +109,13 @@ swept-clear (b ∷ bs) i ps s e at w zero h off =
     ] in
     let o : Unnamed i (sweepFrom (suc i) bs ps) = λ u m q. let r = swept-write bs (suc i) ps u m in omega (arith, r.from, q) in
     let g : get_or (stood s (sweepFrom i (b ∷ bs) ps)) i [] ≡ blank =
-    ap (λ (t : Slots). get_or t i []) (stood-append (cond c [] (zeroed i ∷ [])) (sweepFrom (suc i) bs ps) s)
-    ∙ (stood-other (sweepFrom (suc i) bs ps) (stood s (cond c [] (zeroed i ∷ []))) i o ∙ cleared c s i l f) in
+    ap (λ (t : Slots). get_or t i []) (stood-append s (cond c [] (zeroed i ∷ [])) (sweepFrom (suc i) bs ps))
+    ∙ (stood-other (stood s (cond c [] (zeroed i ∷ []))) (sweepFrom (suc i) bs ps) i o ∙ cleared c s i l f) in
     subst (λ (n : ℕ). get_or (stood s (sweepFrom i (b ∷ bs) ps)) n [] ≡ blank) (sym z) g
 swept-clear (b ∷ bs) i ps s e at w (suc j) h off =
     let c = holds ps i || isBlank b in
     let u = stood s (cond c [] (zeroed i ∷ [])) in
-    let n = length-stood (cond c [] (zeroed i ∷ [])) s in
+    let n = length-stood s (cond c [] (zeroed i ∷ [])) in
     let z : suc i + j ≡ i + suc j = omega arith in
     let at' : (k : ℕ) → k < length bs → get_or u (suc i + k) [] ≡ get_or bs k [] =
     λ k q.
@@ -123,7 +124,7 @@ swept-clear (b ∷ bs) i ps s e at w (suc j) h off =
     let q' : suc k < suc (length bs) = omega arith in
     others c s i (suc i + k) ne ∙ (ap (λ (p : ℕ). get_or s p []) y ∙ at (suc k) q') in
     let r = swept-clear bs (suc i) ps u (omega arith) at' (λ k q. w (suc k) (omega (arith, q))) j (omega arith) (subst (λ (p : ℕ). In p ps → ⊥) (sym z) off) in
-    ap (λ (t : Slots). get_or t (i + suc j) []) (stood-append (cond c [] (zeroed i ∷ [])) (sweepFrom (suc i) bs ps) s)
+    ap (λ (t : Slots). get_or t (i + suc j) []) (stood-append s (cond c [] (zeroed i ∷ [])) (sweepFrom (suc i) bs ps))
     ∙ subst (λ (p : ℕ). get_or (stood u (sweepFrom (suc i) bs ps)) p [] ≡ blank) z r
 
 -- ---- of a file
@@ -132,7 +133,7 @@ sweep-aside s xs w m = let r = swept-write (drop 1 s) 1 (slots_of xs) w m in (r.
 
 pub sweep-rest : (s : Slots) (xs : List Link) → 1 ≤ length s → Whole s → RestBlank (stood s (sweepWrites s xs)) xs
 sweep-rest s xs one whole i above within off =
-    let n = length-stood (sweepWrites s xs) s in
+    let n = length-stood s (sweepWrites s xs) in
     let m = length-drop 1 s in
     let z : 1 + (i - 1) ≡ i = omega arith in
     let at : (j : ℕ) → j < length (drop 1 s) → get_or s (1 + j) [] ≡ get_or (drop 1 s) j [] = λ j q. sym (get_or-drop 1 s j []) in
@@ -163,7 +164,7 @@ module _ (k : Kit) (d : ℕ) (root name : List ℕ) (s : Slots) (on : Bool) (b :
     partly : (m : ℕ) (on' : Bool) → Whole s → Inv k d root name cold (stood s (take m (sweepWrites s f.1))) on' b × Whole (stood s (take m (sweepWrites s f.1)))
     partly m on' w =
         let ws = sweepWrites s f.1 in (
-          moved k d root name cold s on b v cold (stood s (take m ws)) on' (stands-aside k d name b.issued v.links (take m ws) s (aside-take v.links m ws aside) v.stands)
+          moved k d root name cold s on b v cold (stood s (take m ws)) on' (stands-aside k d name b.issued v.links s (take m ws) (aside-take v.links m ws aside) v.stands)
               (λ e. absurd (cold-not-running e)) (λ e. absurd (cold-not-running e)),
           whole-stood (take m ws) s (λ u i. sweep-definite u (in_take u m ws i)) w,
         )
@@ -173,22 +174,22 @@ module _ (k : Kit) (d : ℕ) (root name : List ℕ) (s : Slots) (on : Bool) (b :
     wholly w =
         let ws = sweepWrites s f.1 in
         let n = count-least d s v.stands.fits in (
-          moved k d root name cold s on b v running (stood s ws) true (stands-aside k d name b.issued v.links ws s aside v.stands)
+          moved k d root name cold s on b v running (stood s ws) true (stands-aside k d name b.issued v.links s ws aside v.stands)
               (λ e. refl) (λ e. subst (λ (ys : List Link). RestBlank (stood s ws) ys) file (sweep-rest s f.1 (omega arith) w)),
           whole-stood ws s sweep-definite w,
         )
 
-pub reopen-holds : (reads : ReadsBack) → ReopenHolds
-reopen-holds reads k d root name s on b marks r t on' small w v (declined h e q z p) = refused k d root name s on b h r t on' w v q z
-reopen-holds reads k d root name s on b marks r t on' small w v (stopped e q z p) = refused k d root name s on b (unpowered 0 Restart) r t on' w v q z
-reopen-holds reads k d root name s on b marks r t on' small w v (faulty h e a q z p) = refused k d root name s on b h r t on' w v q z
-reopen-holds reads k d root name s on b marks r t on' small w v (cut f m h e a c q p) =
+pub reopen-holds : ReopenHolds
+reopen-holds k d root name s on b marks r t on' small w v (declined h e q z p) = refused k d root name s on b h r t on' w v q z
+reopen-holds k d root name s on b marks r t on' small w v (stopped e q z p) = refused k d root name s on b (unpowered 0 Restart) r t on' w v q z
+reopen-holds k d root name s on b marks r t on' small w v (faulty h e a q z p) = refused k d root name s on b h r t on' w v q z
+reopen-holds k d root name s on b marks r t on' small w v (cut f m h e a c q p) =
     let g : Sound = (headFor k name b.issued (entry v.links 0), v.links) in
-    let file : f ≡ g = ok_same f g (sym a ∙ inv-read reads k d root name cold s on b small v) in
+    let file : f ≡ g = ok_same f g (sym a ∙ inv-read k d root name cold s on b small v) in
     subst₂ (λ (r : Result (Unit {0}) Halt) (t : Slots). Inv k d root name (mode_of r) t on' b × Whole t) (sym q) (sym c.slots)
     (partly k d root name s on b v f (ap (λ (p : Sound). p.1) file) m on' w)
-reopen-holds reads k d root name s on b marks r t on' small w v (swept f e a z q p) =
+reopen-holds k d root name s on b marks r t on' small w v (swept f e a z q p) =
     let g : Sound = (headFor k name b.issued (entry v.links 0), v.links) in
-    let file : f ≡ g = ok_same f g (sym a ∙ inv-read reads k d root name cold s on b small v) in
+    let file : f ≡ g = ok_same f g (sym a ∙ inv-read k d root name cold s on b small v) in
     subst₃ (λ (r : Result (Unit {0}) Halt) (t : Slots) (o : Bool). Inv k d root name (mode_of r) t o b × Whole t) (sym q) (sym z) (sym p)
     (wholly k d root name s on b v f (ap (λ (p : Sound). p.1) file) w)

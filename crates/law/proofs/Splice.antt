@@ -1,6 +1,6 @@
 -- A chain in which new records come into the place of one: the records, the join, and the erasure.
-use Rattle.std.proofs.Common.{◌≡◌, ℕ, suc, ◌<◌, leb, ◌⊎◌, List, [], ◌∷◌, ◌++◌, map, length, get_or, take, set, sym, refl, ap, ◌∙◌, subst, inl, inr, arith}
-use Rattle.std.proofs.lemmas.Bool.{and_parts, leb-true, cases_eq}
+use Rattle.std.proofs.Common.{◌≡◌, ℕ, suc, ◌<◌, ◌⊎◌, List, [], ◌∷◌, ◌++◌, map, length, get_or, take, set, sym, refl, ap, ◌∙◌, subst, inl, inr, arith}
+use Rattle.std.proofs.lemmas.Bool.{cases_eq}
 use Rattle.std.proofs.lemmas.List.{length-set, length_push, get_or-set_same, get_or-set_other}
 use Rattle.octets.proofs.Fielded.{bytes2}
 use Rattle.device.specs.Effects.{Slot, Slots, blank}
@@ -8,15 +8,17 @@ use Rattle.fault.specs.declared.Step.TheVariants.{NewRecord}
 use Rattle.layout.specs.Records.{encodeHead, encodeNode}
 use Rattle.tree.specs.Cover.{In, Distinct}
 use Rattle.tree.specs.Values.{Valued}
+use Rattle.tree.proofs.Members.{in-cases}
 use Rattle.chain.specs.Reading.{Link, valuedOf, slots_of}
 use Rattle.rules.specs.Kits.{Kit}
 use Rattle.steps.specs.OneStep.{Write}
 use Rattle.steps.specs.Writes.{stood}
 use Rattle.rules.specs.Files.{relinked, entry, lastSlot, recordOf, linksIn, newWrites, joinWrite, eraseWrite, redeemWrites}
-use Rattle.rules.specs.Calls.{slotsLeast, slotsMost}
 use Rattle.law.specs.Law.{RestBlank}
 use Rattle.law.proofs.Invariant.{Linked, headFor, Stands}
-use Rattle.law.proofs.Chains.{targets, stood-append, length-stood, stood-other, in_take, in-targets, slot-left, slot-right, slot_cases, apart-left, apart-right, apart-cross, apart-append, entry-append, linked-append, linked-front, linked-back, linked-above, linked-within, linked-frame, fits-same, stands-outside}
+use Rattle.steps.proofs.Plans.{stood-append, length-stood}
+use Rattle.law.proofs.Frames.{stood-other, count-least, count_kept, linked-set, Aside, aside-take, stands-aside}
+use Rattle.law.proofs.Chains.{slot-left, slot-right, slot_cases, apart-left, apart-right, apart-cross, apart-append, entry-append, linked-append, linked-front, linked-back, linked-above, linked-within}
 
 -- ---- leading on to another index
 pub relink-node : (i j : ℕ) (x : Link) → relinked i (recordOf x j) ≡ recordOf x i
@@ -53,12 +55,12 @@ length-writes [] i = refl
 length-writes (x ∷ xs) i = omega (arith, length_push (newWrites xs i) (newWrite x (entry xs i)), length-writes xs i)
 
 -- they go to their own slots only
-pub new-targets : (xs : List Link) (i j : ℕ) → In j (targets (newWrites xs i)) → In j (slots_of xs)
-new-targets [] i j m = absurd m
-new-targets (x ∷ xs) i j m =
-    elim (in-targets (newWrites xs i) (newWrite x (entry xs i) ∷ []) j m) [
-      | inl a ↦ inr (new-targets xs i j a)
-      | inr b ↦ elim b [ inl q ↦ inl q | inr n ↦ absurd n ]
+pub new-slots : (xs : List Link) (i : ℕ) (w : Write) → In w (newWrites xs i) → In w.slot (slots_of xs)
+new-slots [] i w m = absurd m
+new-slots (x ∷ xs) i w m =
+    elim (in-cases w (newWrites xs i) (newWrite x (entry xs i) ∷ []) m) [
+      | inl a ↦ inr (new-slots xs i w a)
+      | inr b ↦ elim b [ inl q ↦ inl (ap (λ (u : Write). u.slot) q) | inr n ↦ absurd n ]
     ]
 
 -- and stand there, linked
@@ -78,7 +80,7 @@ new-linked s (x ∷ xs) i a low high =
       low x.slot (inl refl),
       subst (λ (n : ℕ). x.slot < n) (sym m) h,
       get_or-set_same u x.slot b [] h,
-      linked-frame u t xs i m (λ j p. get_or-set_other u x.slot j b [] (λ q. a.0 (subst (λ (z : ℕ). In z (slots_of xs)) q p))) l,
+      linked-set u xs i x.slot b a.0 l,
     )
 
 -- ---- the join
@@ -125,13 +127,6 @@ join-head k d name issued s (y ∷ ys) j i z l h =
     let o : 0 < p = linked-above s (y ∷ ys) j p l (last-in y ys) in
     get_or-set_other s p 0 (relinked i (get_or s p [])) [] (λ q. omega arith) ∙ h
 
--- a file has a head's slot
-pub some-slot : (k : Kit) (d : ℕ) (name : List ℕ) (issued : ℕ) (s : Slots) (xs : List Link) → Stands k d name issued s xs → 0 < length s
-some-slot k d name issued s xs st =
-    let p = and_parts (leb (slotsLeast d) (length s)) (leb (length s) slotsMost) st.fits in
-    let q = leb-true (slotsLeast d) (length s) p.0 in
-    omega arith
-
 -- once new records stand linked beside the chain, the join puts them into the place of x
 pub join_stands : (k : Kit) (d : ℕ) (name : List ℕ) (issued : ℕ) (s : Slots) (front : List Link) (x : Link) (back new : List Link) →
     Stands k d name issued s (front ++ (x ∷ back)) → Linked s new (entry back 0) → Distinct (slots_of new) →
@@ -150,24 +145,24 @@ join_stands k d name issued s front x back new st l a off =
     let ra : Distinct (slots_of (x ∷ back)) = apart-right front (x ∷ back) st.apart in
     let cross = apart-cross front (x ∷ back) st.apart in
     let ft : Linked t front i = join-linked s front x.slot i fa fl in
-    let away-new : (j : ℕ) → In j (slots_of new) → j ≡ p → ⊥ = λ j m q.
+    let off-new : In p (slots_of new) → ⊥ = λ m.
     elim (last-cases front) [
-      | inl z ↦ let o : 0 < j = linked-above s new (entry back 0) j l m in omega arith
-      | inr f ↦ off j m (slot-left j front (x ∷ back) (subst (λ (w : ℕ). In w (slots_of front)) (sym q) f))
+      | inl z ↦ let o : 0 < p = linked-above s new (entry back 0) p l m in omega arith
+      | inr f ↦ off p m (slot-left p front (x ∷ back) f)
     ] in
-    let away-back : (j : ℕ) → In j (slots_of back) → j ≡ p → ⊥ = λ j m q.
+    let off-back : In p (slots_of back) → ⊥ = λ m.
     elim (last-cases front) [
-      | inl z ↦ let o : 0 < j = linked-above s back 0 j bl m in omega arith
-      | inr f ↦ cross j (subst (λ (w : ℕ). In w (slots_of front)) (sym q) f) (inr m)
+      | inl z ↦ let o : 0 < p = linked-above s back 0 p bl m in omega arith
+      | inr f ↦ cross p f (inr m)
     ] in
-    let nt : Linked t new (entry back 0) = linked-frame s t new (entry back 0) n (λ j m. get_or-set_other s p j b [] (away-new j m)) l in
-    let bt : Linked t back 0 = linked-frame s t back 0 n (λ j m. get_or-set_other s p j b [] (away-back j m)) bl in
+    let nt : Linked t new (entry back 0) = linked-set s new (entry back 0) p b off-new l in
+    let bt : Linked t back 0 = linked-set s back 0 p b off-back bl in
     let hs : get_or s 0 [] ≡ encodeHead d (headFor k name issued (entry front x.slot)) =
     st.head ∙ ap (λ (z : ℕ). encodeHead d (headFor k name issued z)) (entry-append front (x ∷ back) 0) in
     let es : entry front i ≡ entry (front ++ (new ++ back)) 0 = ap (entry front) (sym e) ∙ sym (entry-append front (new ++ back) 0) in
     record {
-      fits = fits-same d s t n st.fits;
-      head = join-head k d name issued s front x.slot i (some-slot k d name issued s (front ++ (x ∷ back)) st) fl hs ∙ ap (λ (z : ℕ). encodeHead d (headFor k name issued z)) es;
+      fits = count_kept d s t n st.fits;
+      head = join-head k d name issued s front x.slot i (omega (arith, count-least d s st.fits)) fl hs ∙ ap (λ (z : ℕ). encodeHead d (headFor k name issued z)) es;
       links = linked-append t front (new ++ back) 0 (subst (λ (z : ℕ). Linked t front z) (sym e) ft) (linked-append t new back 0 nt bt);
       apart = apart-append front (new ++ back) fa
           (apart-append new back a ra.1 (λ j m o. off j m (slot-right j front (x ∷ back) (inr o))))
@@ -182,26 +177,24 @@ module _ (k : Kit) (d : ℕ) (name : List ℕ) (issued : ℕ) (s : Slots) (front
     (st : Stands k d name issued s (front ++ (x ∷ back)))
     (low : (j : ℕ) → In j (slots_of new) → 0 < j) (high : (j : ℕ) → In j (slots_of new) → j < length s)
     (off : (j : ℕ) → In j (slots_of new) → In j (slots_of (front ++ (x ∷ back))) → ⊥) (apart : Distinct (slots_of new)) where
+  new-aside : Aside (front ++ (x ∷ back)) (newWrites new (entry back 0))
+  new-aside w m = let i = new-slots new (entry back 0) w m in (low w.slot i, off w.slot i)
+
   -- while the join does not stand the chain is as it was
   pub unjoined : (m : ℕ) → Stands k d name issued (stood s (take m (newWrites new (entry back 0)))) (front ++ (x ∷ back))
   unjoined m =
       let ws = newWrites new (entry back 0) in
-      stands-outside k d name issued s (front ++ (x ∷ back)) (take m ws)
-      (λ j p. low j (new-targets new (entry back 0) j (in_take m ws j p)))
-      (λ j p. off j (new-targets new (entry back 0) j (in_take m ws j p))) st
+      stands-aside k d name issued (front ++ (x ∷ back)) s (take m ws) (aside-take (front ++ (x ∷ back)) m ws new-aside) st
 
   laid : Stands k d name issued (stood s (newWrites new (entry back 0))) (front ++ (x ∷ back))
-  laid =
-      stands-outside k d name issued s (front ++ (x ∷ back)) (newWrites new (entry back 0))
-      (λ j p. low j (new-targets new (entry back 0) j p))
-      (λ j p. off j (new-targets new (entry back 0) j p)) st
+  laid = stands-aside k d name issued (front ++ (x ∷ back)) s (newWrites new (entry back 0)) new-aside st
 
   -- the join's slot holds what it held before the new records
   join-same : get_or (stood s (newWrites new (entry back 0))) (lastSlot 0 front) [] ≡ get_or s (lastSlot 0 front) []
   join-same =
       let p = lastSlot 0 front in
-      stood-other s (newWrites new (entry back 0)) p (λ m.
-      let n = new-targets new (entry back 0) p m in
+      stood-other s (newWrites new (entry back 0)) p (λ w m e.
+      let n : In p (slots_of new) = subst (λ (j : ℕ). In j (slots_of new)) (sym e) (new-slots new (entry back 0) w m) in
       elim (last-cases front) [
         | inl z ↦ let o : 0 < p = low p n in omega arith
         | inr f ↦ off p n (slot-left p front (x ∷ back) f)
@@ -240,9 +233,8 @@ module _ (k : Kit) (d : ℕ) (name : List ℕ) (issued : ℕ) (s : Slots) (front
   erases =
       let o : 0 < x.slot = linked-above s (front ++ (x ∷ back)) 0 x.slot st.links (slot-right x.slot front (x ∷ back) (inl refl)) in
       subst (λ (z : Slots). Stands k d name issued z (front ++ (new ++ back))) (sym after-all)
-      (stands-outside k d name issued (stood s (newWrites new (entry back 0) ++ (joinWrite s front (entry new (entry back 0)) ∷ []))) (front ++ (new ++ back)) (eraseWrite x ∷ [])
-      (λ j m. elim m [ inl q ↦ subst (λ (z : ℕ). 0 < z) (sym q) o | inr n ↦ absurd n ])
-      (λ j m i. elim m [ inl q ↦ x-off (subst (λ (z : ℕ). In z (slots_of (front ++ (new ++ back)))) q i) | inr n ↦ absurd n ])
+      (stands-aside k d name issued (front ++ (new ++ back)) (stood s (newWrites new (entry back 0) ++ (joinWrite s front (entry new (entry back 0)) ∷ []))) (eraseWrite x ∷ [])
+      (λ w m. elim m [ inl q ↦ subst (λ (u : Write). (0 < u.slot) × (In u.slot (slots_of (front ++ (new ++ back))) → ⊥)) (sym q) (o, x-off) | inr n ↦ absurd n ])
       joins)
 
   -- a slot that is neither the head's nor on the new chain, nor x's, holds what it held
@@ -251,14 +243,16 @@ module _ (k : Kit) (d : ℕ) (name : List ℕ) (issued : ℕ) (s : Slots) (front
   rest-same i o m =
       let ws = newWrites new (entry back 0) in
       let j = joinWrite s front (entry new (entry back 0)) in
-      stood-other s (ws ++ (j ∷ [])) i (λ p.
-      elim (in-targets ws (j ∷ []) i p) [
-        | inl a ↦ m (slot-right i front (new ++ back) (slot-left i new back (new-targets new (entry back 0) i a)))
+      stood-other s (ws ++ (j ∷ [])) i (λ w p e.
+      elim (in-cases w ws (j ∷ []) p) [
+        | inl a ↦ m (slot-right i front (new ++ back) (slot-left i new back (subst (λ (z : ℕ). In z (slots_of new)) (sym e) (new-slots new (entry back 0) w a))))
         | inr b ↦ elim b [
-          | inl z ↦ elim (last-cases front) [
-            | inl y ↦ omega arith
-            | inr f ↦ m (slot-left i front (new ++ back) (subst (λ (w : ℕ). In w (slots_of front)) (sym z) f))
-          ]
+          | inl q ↦
+              let z : i ≡ lastSlot 0 front = e ∙ ap (λ (u : Write). u.slot) q in
+              elim (last-cases front) [
+                | inl y ↦ omega arith
+                | inr f ↦ m (slot-left i front (new ++ back) (subst (λ (w : ℕ). In w (slots_of front)) (sym z) f))
+              ]
           | inr n ↦ absurd n
         ]
       ])

@@ -27,8 +27,8 @@ use Rattle.rules.specs.Calls.{Sound, Outcome, Finished, read_by, countFits, same
 use Rattle.rules.specs.Books.{Book}
 use Rattle.rules.specs.Pasts.{running, cold, isNoPower, modeAfter}
 use Rattle.law.specs.Law.{Uncut}
-use Rattle.law.proofs.Invariant.{headFor, Inv, ReadsBack}
-use Rattle.law.proofs.Frames.{length-stood}
+use Rattle.law.proofs.Invariant.{headFor, Inv}
+use Rattle.steps.proofs.Plans.{length-stood}
 use Rattle.law.proofs.Readings.{inv-read, link-is, key-is, issue-ok, MayRedeem, redeem-ok}
 use Rattle.law.proofs.Told.{Out, Barrier, issueLeft, issueRecord, issueFits, issueBar, IssueTold, redeemIssued, redeemNamed, redeemLong, redeemFits, redeemBar, SealedAs, RoomTold, PlainTold, SealTold, NodeTold, RedeemTold}
 
@@ -49,8 +49,8 @@ cut-is s t ws m h r c e u = u h e (ap (λ (q : Halt). q.refusal) c.halt)
 pub issue-length : (k : Kit) (d : ℕ) (s : Slots) (on : Bool) (plain : List ℕ) (room marks : ℕ) (r : Outcome) (ticket : List ℕ) (t : Slots) (on' headed : Bool) →
     Issuing k d s on plain room marks r ticket t on' headed → length t ≡ length s
 issue-length k d s on plain room marks r ticket t on' headed (Issuing.declined h verdict e u q) = ap length u.slots
-issue-length k d s on plain room marks r ticket t on' headed (Issuing.cut f m h verdict c e p z q) = ap length c.slots ∙ length-stood (take m (issueWrite s f.0 ∷ [])) s
-issue-length k d s on plain room marks r ticket t on' headed (Issuing.given f x verdict i c e q z p l) = ap length z ∙ length-stood (issueWrite s f.0 ∷ []) s
+issue-length k d s on plain room marks r ticket t on' headed (Issuing.cut f m h verdict c e p z q) = ap length c.slots ∙ length-stood s (take m (issueWrite s f.0 ∷ []))
+issue-length k d s on plain room marks r ticket t on' headed (Issuing.given f x verdict i c e q z p l) = ap length z ∙ length-stood s (issueWrite s f.0 ∷ [])
 
 pub redeem-length : (k : Kit) (d : ℕ) (s : Slots) (on : Bool) (ticket : List ℕ) (room marks : ℕ) (r : Outcome) (state : List ℕ) (t : Slots) (on' joined : Bool) →
     Redeeming k d s on ticket room marks r state t on' joined → length t ≡ length s
@@ -60,9 +60,9 @@ redeem-length k d s on ticket room marks r state t on' joined (Redeeming.shut f 
 redeem-length k d s on ticket room marks r state t on' joined (Redeeming.strange f front x back plain hit sl n e u q) = ap length u.slots
 redeem-length k d s on ticket room marks r state t on' joined (Redeeming.full f front x back plain hit sl n l e u q) = ap length u.slots
 redeem-length k d s on ticket room marks r state t on' joined (Redeeming.cut f front x back plain fs m h hit sl ready c e p z q) =
-    ap length c.slots ∙ length-stood (take m (redeemWrites s front x back (newLinks k d x (number_in ticket) fs))) s
+    ap length c.slots ∙ length-stood s (take m (redeemWrites s front x back (newLinks k d x (number_in ticket) fs)))
 redeem-length k d s on ticket room marks r state t on' joined (Redeeming.opened f front x back plain fs hit sl ready z p q e l) =
-    ap length z ∙ length-stood (redeemWrites s front x back (newLinks k d x (number_in ticket) fs)) s
+    ap length z ∙ length-stood s (redeemWrites s front x back (newLinks k d x (number_in ticket) fs))
 
 -- ---- a key is as long as a value
 pub length-follow : (k : Kit) → Lawful k → (bs : List Bool) (v : List ℕ) → length v ≡ valueLength → length (follow k.expansion v bs) ≡ valueLength
@@ -135,12 +135,12 @@ RedeemTale k d root name s b ticket room marks r u j =
     RedeemTold d (number_in ticket) (length s - 1 - length (cover d b.spent)) room k.sealing (key_of k.expansion d root (number_in ticket)) (headingIn ticket) (sealedIn ticket)
     (cover d b.spent) (redeemBar d k.overhead (length s) b.issued name ticket room marks) r u j
 
-module _ (reads : ReadsBack) (k : Kit) (d : ℕ) (root name : List ℕ) (s : Slots) (on : Bool) (b : Book) (small : d ≤ 16) (v : Inv k d root name running s on b) where
+module _ (k : Kit) (d : ℕ) (root name : List ℕ) (s : Slots) (on : Bool) (b : Book) (small : d ≤ 16) (v : Inv k d root name running s on b) where
   abbrev file : Sound
   file = (headFor k name b.issued (entry v.links 0), v.links)
 
   read : read_by k d s on ≡ Ok file
-  read = subst (λ (o : Bool). read_by k d s o ≡ Ok file) (sym (v.power refl)) (inv-read reads k d root name running s on b small v)
+  read = subst (λ (o : Bool). read_by k d s o ≡ Ok file) (sym (v.power refl)) (inv-read k d root name running s on b small v)
 
   module _ (plain : List ℕ) (room marks : ℕ) where
     given-told : (f : Sound) (x : Link) (r : Outcome) (ticket : List ℕ) (headed : Bool) → issueVerdict k d s on plain room marks ≡ Ok f → In x f.1 → Covers d x.node f.0.issued →
