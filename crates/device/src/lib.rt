@@ -2,14 +2,24 @@
 //!
 //! A device means the row of its slots and whether its power is on. What each call does to these
 //! stands in specs/Effects.antt; every device, at the bottom or a layer above another, is proved to do just that.
+#![tactic(auto)]
+
 ghost use Rattle.std.specs.Prelude.{◌≡◌, ℕ, Bool, List, length};
-ghost use Rattle.device.specs.Effects.{Reading, Writing, Restarting, Tearing, blank};
+ghost use Rattle.device.specs.Effects.{Reading, Writing, Restarting, Tearing, slotSize, blank};
 ghost use Rattle.device.specs.Refusals.{refusalOf};
 
 use refusal::Refusal;
 
 /// The bytes of a slot.
 pub const SLOT_SIZE: usize = 64;
+
+/// A slot of zeros.
+pub fn blank_slot() -> [u8; SLOT_SIZE]
+    ensures zeros { result ≡ blank }
+    ensures size { SLOT_SIZE ≡ slotSize }
+{
+    [0; SLOT_SIZE]
+}
 
 /// Why a device declines a call.
 #[derive(Clone, Copy, PartialEq, Eq, Debug)]

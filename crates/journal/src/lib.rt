@@ -10,7 +10,7 @@ ghost use Rattle.device.specs.Effects.{Writing, Restarting, blank};
 ghost use Rattle.journal.specs.Layout.{shown, copyIn, mostSlots, mark_of, markIn, pendingIn, unusedIn};
 ghost use Rattle.journal.specs.Writes.{writeOf, clearWritesOf, clearWrites, placeWrites, Within, Ran, WritingBelow, RestartingBelow};
 
-use device::{DeviceFault, ReadSlots, TearSlots, WriteSlots};
+use device::{DeviceFault, ReadSlots, TearSlots, WriteSlots, blank_slot};
 
 /// The slots that a journal shows at most.
 pub const MOST_SLOTS: usize = 1024;
@@ -118,7 +118,7 @@ fn deliver<D: TearSlots>(d: &mut D, target: usize, copy: &[u8; 64]) -> Result<()
     requires some { 2 < length (D.ReadSlots.slots d.old) }
     ensures { Ran (D.ReadSlots.slots d.old) (clearWritesOf (Some target) (D.ReadSlots.slots d.old)) result (D.ReadSlots.slots d.new) (D.ReadSlots.powered d.new) }
 {
-    let zeros = [0; 64];
+    let zeros = blank_slot();
     if target < shown_count(d) {
         run(d, &[(target + FIRST, &*copy), (MARK, &zeros)])
     } else {
@@ -158,7 +158,7 @@ fn place<D: TearSlots>(d: &mut D, index: usize, bytes: &[u8; 64]) -> Result<(), 
 {
     let targeted = mark_with(LOWERED, index);
     let raised = mark_with(RAISED, index);
-    let zeros = [0; 64];
+    let zeros = blank_slot();
     let writes = [
         (COPY, &*bytes),
         (MARK, &targeted),
