@@ -1,5 +1,5 @@
 -- What a call reads in a file that stands, what a verdict tells, and the invariant moved to other slots.
-use Rattle.std.proofs.Common.{◌≡◌, ℕ, ◌^◌, ◌<◌, ◌≤◌, Bool, true, false, cond, ◌&&◌, ltb, leb, List, ◌∷◌, ◌++◌, length, Ok, Err, Result, sym, refl, ap, ◌∙◌, subst, inl, arith}
+use Rattle.std.proofs.Common.{◌≡◌, ℕ, ◌^◌, ◌<◌, ◌≤◌, Bool, true, false, cond, ◌&&◌, ltb, leb, List, ◌∷◌, ◌++◌, map, length, Ok, Err, Result, sym, refl, ap, ◌∙◌, subst, inl, arith}
 use Rattle.std.proofs.lemmas.Bool.{and_parts, ltb-true, leb-true}
 use Rattle.refusal.specs.declared.Refusal.TheVariants.{ShortBuffer, SlotCount, NotARecord, Exhausted, TicketLength, OtherName, NotIssued}
 use Rattle.fault.specs.declared.Halt.{Halt}
@@ -8,8 +8,9 @@ use Rattle.device.specs.Effects.{Slots}
 use Rattle.session.specs.Limits.{mostLength}
 use Rattle.session.specs.Records.{isRecord}
 use Rattle.tree.specs.Cover.{In}
-use Rattle.chain.specs.Reading.{Link, fileOf, sound}
+use Rattle.chain.specs.Reading.{Link, valuedOf, fileOf, sound}
 use Rattle.marks.specs.Rows.{roomOf}
+use Rattle.tree.specs.Values.{valuedCover}
 use Rattle.rules.specs.Kits.{Kit}
 use Rattle.rules.specs.Tickets.{nameIn, number_in, ticketLeast, ticketLongest, ticketMost}
 use Rattle.tree.proofs.Members.{in_right}
@@ -119,14 +120,14 @@ module _ (k : Kit) (d : ℕ) (root name : List ℕ) (s : Slots) (on : Bool) (b :
     pub hit-in : In x v.links
     hit-in = subst (λ (l : List Link). In x l) (sym hit-chain) (in_right x front (x ∷ back) (inl refl))
 
--- ---- the invariant at other slots, with the same book
+-- ---- the invariant at other slots and with another chain, with the same book
 pub moved : (k : Kit) (d : ℕ) (root name : List ℕ) (m : Mode) (s : Slots) (on : Bool) (b : Book) (v : Inv k d root name m s on b)
-    (m' : Mode) (t : Slots) (on' : Bool) → Stands k d name b.issued t v.links → (m' ≡ running → on' ≡ true) → (m' ≡ running → RestBlank t v.links) →
-    Inv k d root name m' t on' b
-moved k d root name m s on b v m' t on' st p r = record {
-  links = v.links;
+    (m' : Mode) (t : Slots) (on' : Bool) (xs : List Link) → Stands k d name b.issued t xs → map valuedOf xs ≡ valuedCover k.expansion d root b.spent →
+    (m' ≡ running → on' ≡ true) → (m' ≡ running → RestBlank t xs) → Inv k d root name m' t on' b
+moved k d root name m s on b v m' t on' xs st c p r = record {
+  links = xs;
   stands = st;
-  covers = v.covers;
+  covers = c;
   counted = v.counted;
   below = v.below;
   rooted = v.rooted;
@@ -142,9 +143,9 @@ moved k d root name m s on b v m' t on' st p r = record {
 
 -- of a running server whose call wrote nothing
 pub still : (k : Kit) (d : ℕ) (root name : List ℕ) (s : Slots) (on : Bool) (b : Book) (m' : Mode) → Inv k d root name running s on b → Inv k d root name m' s on b
-still k d root name s on b m' v = moved k d root name running s on b v m' s on v.stands (λ e. v.power refl) (λ e. v.rest refl)
+still k d root name s on b m' v = moved k d root name running s on b v m' s on v.links v.stands v.covers (λ e. v.power refl) (λ e. v.rest refl)
 
 -- of a server that is cold
 pub cooled : (k : Kit) (d : ℕ) (root name : List ℕ) (m : Mode) (s : Slots) (on on' : Bool) (b : Book) → Inv k d root name m s on b → Inv k d root name cold s on' b
 cooled k d root name m s on on' b v =
-    moved k d root name m s on b v cold s on' v.stands (λ e. absurd (cold-not-running e)) (λ e. absurd (cold-not-running e))
+    moved k d root name m s on b v cold s on' v.links v.stands v.covers (λ e. absurd (cold-not-running e)) (λ e. absurd (cold-not-running e))

@@ -26,7 +26,7 @@ use Rattle.rules.specs.Pasts.{Mode, running, cold, modeAfter}
 use Rattle.law.specs.Law.{RestBlank}
 use Rattle.law.proofs.Invariant.{Stands, Inv}
 use Rattle.law.proofs.Chains.{valued-of-append}
-use Rattle.law.proofs.Readings.{cold-not-running, redeem-ok, file-is, hit-chain}
+use Rattle.law.proofs.Readings.{cold-not-running, moved, redeem-ok, file-is, hit-chain}
 use Rattle.law.proofs.Splice.{links-slots, links-valued, length-links, length-writes, unjoined, joins, erases, rest-blank}
 
 -- ---- where a puncture takes place, and what it makes of the cover
@@ -92,26 +92,6 @@ spot k d root name s on b ticket room marks f front x back plain fs small v hit 
 
 -- ---- what holds, after
 module _ (k : Kit) (d : ℕ) (root name : List ℕ) (s : Slots) (on : Bool) (b : Book) (v : Inv k d root name running s on b) where
-  -- the book as it was
-  same-book : (m : Mode) (t : Slots) (on' : Bool) (xs : List Link) → Stands k d name b.issued t xs → map valuedOf xs ≡ valuedCover k.expansion d root b.spent →
-      (m ≡ running → on' ≡ true) → (m ≡ running → RestBlank t xs) → Inv k d root name m t on' b
-  same-book m t on' xs st c p r = record {
-    links = xs;
-    stands = st;
-    covers = c;
-    counted = v.counted;
-    below = v.below;
-    rooted = v.rooted;
-    named = v.named;
-    power = p;
-    rest = r;
-    once = v.once;
-    opened = v.opened;
-    issued = v.issued;
-    records = v.records;
-    tickets = v.tickets;
-  }
-
   -- the number n spent, and these opened
   more-spent : (n : ℕ) (opened : List ℕ) (m : Mode) (t : Slots) (on' : Bool) (xs : List Link) → n < b.issued →
       Stands k d name b.issued t xs → map valuedOf xs ≡ valuedCover k.expansion d root (n ∷ b.spent) →
@@ -151,7 +131,7 @@ refused : (k : Kit) (d : ℕ) (root name : List ℕ) (s : Slots) (on : Bool) (b 
     Inv k d root name running s on b → r ≡ Err h → Untouched s on room state t on' → joined ≡ false → Kept k d root name b ticket r t on' joined
 refused k d root name s on b ticket room r state t on' joined h v e u j =
     carried k d root name b ticket r (Err h) t s on' on joined false e u.slots u.power j
-    (same-book k d root name s on b v (modeAfter (Err h)) s on v.links v.stands v.covers (λ q. v.power refl) (λ q. v.rest refl))
+    (moved k d root name running s on b v (modeAfter (Err h)) s on v.links v.stands v.covers (λ q. v.power refl) (λ q. v.rest refl))
 
 -- one write of two more stands
 take-one : (us : List Write) (v w : Write) (m : ℕ) → m ≡ suc (length us) → take m (us ++ (v ∷ w ∷ [])) ≡ us ++ (v ∷ [])
@@ -193,7 +173,7 @@ cut_short k d root name s on b ticket r t on' joined front x back new m h v p c 
       | inr l ↦
           carried k d root name b ticket r (Err hh) t (stood s (take m ws)) on' false joined false eh
           (c.slots ∙ ap (λ (z : List Write). stood s z) (take-append-le m ws (y ∷ eraseWrite x ∷ []) (omega arith))) o (j ∙ le-ltb w m l)
-          (same-book k d root name s on b v cold (stood s (take m ws)) false (front ++ (x ∷ back))
+          (moved k d root name running s on b v cold (stood s (take m ws)) false (front ++ (x ∷ back))
           (unjoined k d name b.issued s front x back new p.stands p.low p.high p.off p.apart m) p.covers
           (λ q. absurd (cold-not-running q)) (λ q. absurd (cold-not-running q)))
     ]

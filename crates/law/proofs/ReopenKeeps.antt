@@ -164,7 +164,7 @@ module _ (k : Kit) (d : ℕ) (root name : List ℕ) (s : Slots) (on : Bool) (b :
     partly : (m : ℕ) (on' : Bool) → Whole s → Inv k d root name cold (stood s (take m (sweepWrites s f.1))) on' b × Whole (stood s (take m (sweepWrites s f.1)))
     partly m on' w =
         let ws = sweepWrites s f.1 in (
-          moved k d root name cold s on b v cold (stood s (take m ws)) on' (stands-aside k d name b.issued v.links s (take m ws) (aside-take v.links m ws aside) v.stands)
+          moved k d root name cold s on b v cold (stood s (take m ws)) on' v.links (stands-aside k d name b.issued v.links s (take m ws) (aside-take v.links m ws aside) v.stands) v.covers
               (λ e. absurd (cold-not-running e)) (λ e. absurd (cold-not-running e)),
           whole-stood (take m ws) s (λ u i. sweep-definite u (in_take u m ws i)) w,
         )
@@ -174,7 +174,7 @@ module _ (k : Kit) (d : ℕ) (root name : List ℕ) (s : Slots) (on : Bool) (b :
     wholly w =
         let ws = sweepWrites s f.1 in
         let n = count-least d s v.stands.fits in (
-          moved k d root name cold s on b v running (stood s ws) true (stands-aside k d name b.issued v.links s ws aside v.stands)
+          moved k d root name cold s on b v running (stood s ws) true v.links (stands-aside k d name b.issued v.links s ws aside v.stands) v.covers
               (λ e. refl) (λ e. subst (λ (ys : List Link). RestBlank (stood s ws) ys) file (sweep-rest s f.1 (omega arith) w)),
           whole-stood ws s sweep-definite w,
         )
