@@ -1,5 +1,5 @@
 -- What holds after every past gives the law's first two parts.
-use Rattle.std.proofs.Common.{◌≡◌, ℕ, ◌+◌, ◌-◌, ◌^◌, ◌<◌, ◌≤◌, Bool, true, ◌&&◌, ltb, leb, ◌↔◌, List, ◌∷◌, ◌++◌, length, Ok, Err, sym, refl, ap, ◌∙◌, subst, ap₂, inl, arith, pow_mono}
+use Rattle.std.proofs.Common.{◌≡◌, ℕ, ◌+◌, ◌-◌, ◌^◌, ◌<◌, ◌≤◌, Bool, true, ◌&&◌, ltb, leb, ◌↔◌, List, length, Ok, Err, sym, refl, ap, ◌∙◌, subst, ap₂, arith, pow_mono}
 use Rattle.std.proofs.lemmas.Bool.{and_from, le-leb, lt-ltb, cond-true}
 use Rattle.octets.specs.Buffers.{filled}
 use Rattle.refusal.specs.declared.Refusal.TheVariants.{NoFreeSlot}
@@ -13,11 +13,9 @@ use Rattle.layout.specs.declared.Head.{Head}
 use Rattle.tree.specs.declared.Node.{Node}
 use Rattle.tree.specs.Nodes.{Covers}
 use Rattle.tree.specs.Cover.{In, cover}
-use Rattle.tree.specs.Values.{Valued, value_of, key_of, keyFrom, WorkedOut, way}
-use Rattle.tree.proofs.Members.{in_right}
+use Rattle.tree.specs.Values.{Valued, key_of, keyFrom, WorkedOut, way}
 use Rattle.tree.proofs.Exact.{at_most_one}
 use Rattle.tree.proofs.Fewest.{least}
-use Rattle.tree.proofs.Descent.{key-from}
 use Rattle.tree.proofs.Keys.{keys_of}
 use Rattle.marks.specs.Rows.{roomOf}
 use Rattle.chain.specs.Reading.{Link, fileOf, sound}
@@ -25,21 +23,14 @@ use Rattle.rules.specs.Kits.{Kit, Lawful, valueLength, headingLength}
 use Rattle.rules.specs.Tickets.{headingOf, nameIn, number_in, headingIn, sealedIn, ticketLeast, ticketLongest}
 use Rattle.rules.specs.Files.{entry, freeCount}
 use Rattle.rules.proofs.Counting.{by_levels}
-use Rattle.rules.specs.Calls.{Sound, Outcome, countFits, readAs, read_by, sameBytes, redeemable, redeemVerdict, Hit, Seals, Redeeming, declined, spent, shut, strange, full, cut, opened}
+use Rattle.rules.specs.Calls.{Sound, Outcome, countFits, sameBytes, redeemable, redeemVerdict, Hit, Seals, Redeeming, declined, spent, shut, strange, full, cut, opened}
 use Rattle.rules.specs.Books.{Given, Book}
 use Rattle.rules.specs.Pasts.{Mode, running}
 use Rattle.law.specs.Law.{CoverLaw, Uncut, OnceLaw, RestBlank}
-use Rattle.law.proofs.Invariant.{headFor, Inv}
-use Rattle.law.proofs.ReadsBack.{reads-back, cover-link, nodes-are, as_many, link-of}
+use Rattle.law.proofs.Invariant.{headFor, fileFor, Inv}
+use Rattle.law.proofs.Links.{link-count, link-over, link-is, key-is}
+use Rattle.law.proofs.Readings.{redeem-ok, inv-file, inv-reads, file-is, hit-in}
 use Rattle.law.proofs.TicketParts.{follow-long, same_self, heading-long, heading-in, sealed-in, name_in, number-in, ticket-long}
-
--- the head that is read
-abbrev pub headIn : (k : Kit) (d : ℕ) (root name : List ℕ) (m : Mode) (s : Slots) (on : Bool) (b : Book) → Inv k d root name m s on b → Head
-headIn k d root name m s on b v = headFor k name b.issued (entry v.links 0)
-
-pub reads_so : (k : Kit) (d : ℕ) (root name : List ℕ) (m : Mode) (s : Slots) (on : Bool) (b : Book) → d ≤ 16 → (v : Inv k d root name m s on b) →
-    fileOf d k.generator k.sealer s ≡ sound (headIn k d root name m s on b v) v.links
-reads_so k d root name m s on b l v = reads-back k d root name b.issued b.spent s v.links l v.stands v.named v.counted v.below v.covers
 
 pub sound-links : (g h : Head) (xs ys : List Link) → sound g xs ≡ sound h ys → xs ≡ ys
 sound-links g h xs ys e = cc
@@ -48,9 +39,9 @@ sound-links g h xs ys e = cc
 pub cover-law : (k : Kit) (d : ℕ) (root name : List ℕ) (m : Mode) (s : Slots) (on : Bool) (b : Book) → d ≤ 16 → Inv k d root name m s on b → CoverLaw k d root name s b
 cover-law k d root name m s on b l v =
     record {
-      head = headIn k d root name m s on b v;
+      head = headFor k name b.issued (entry v.links 0);
       links = v.links;
-      read = reads_so k d root name m s on b l v;
+      read = inv-file k d root name m s on b l v;
       counted = refl;
       named = refl;
       covers = v.covers;
@@ -58,22 +49,22 @@ cover-law k d root name m s on b l v =
           subst (λ (xs : List Valued). WorkedOut k.expansion d xs n (key_of k.expansion d root n) ↔ (In n b.spent → ⊥)) (sym v.covers)
           (keys_of k.expansion d root b.spent n h).0;
       least = λ ys c.
-          omega (arith, as_many (value_of k.expansion d root) v.links (cover d b.spent) v.covers, least d b.spent ys c);
+          omega (arith, link-count k d root b.spent v.links v.covers, least d b.spent ys c);
     }
 
 -- a chain that is read is the one that stands, so the slots beside it are zero
 pub rest-read : (k : Kit) (d : ℕ) (root name : List ℕ) (s : Slots) (on : Bool) (b : Book) → d ≤ 16 → Inv k d root name running s on b →
     (h : Head) (xs : List Link) → fileOf d k.generator k.sealer s ≡ sound h xs → RestBlank s xs
 rest-read k d root name s on b l v h xs e =
-    let q : v.links ≡ xs = sound-links (headIn k d root name running s on b v) h v.links xs (sym (reads_so k d root name running s on b l v) ∙ e) in
+    let q : v.links ≡ xs = sound-links (headFor k name b.issued (entry v.links 0)) h v.links xs (sym (inv-file k d root name running s on b l v) ∙ e) in
     subst (λ (ys : List Link). RestBlank s ys) q (v.rest refl)
 
 -- ---- its own
 -- a ticket given, whose number is unspent and lies under the node x of the cover
 module _ (k : Kit) (lawful : Lawful k) (d : ℕ) (root name : List ℕ) (s : Slots) (on : Bool) (b : Book)
     (deep : d ≤ 16) (v : Inv k d root name running s on b) (g : Given) (given : In g b.given) (x : Node) (here : In x (cover d b.spent)) (under : Covers d x g.number) where
-  own_key : length (key_of k.expansion d root g.number) ≡ valueLength
-  own_key = follow-long k lawful root (way d 0 g.number) v.rooted
+  key-long : length (key_of k.expansion d root g.number) ≡ valueLength
+  key-long = follow-long k lawful root (way d 0 g.number) v.rooted
 
   state-most : length g.state ≤ mostLength
   state-most = most g.state (v.records g given)
@@ -98,7 +89,7 @@ module _ (k : Kit) (lawful : Lawful k) (d : ℕ) (root name : List ℕ) (s : Slo
   long-enough : (leb (ticketLeast k) (length g.ticket) && leb (length g.ticket) (ticketLongest k)) ≡ true
   long-enough =
       let e : length g.ticket ≡ headingLength + (length g.state + k.overhead) =
-      ap length (v.tickets g given) ∙ ticket-long k name g.number (key_of k.expansion d root g.number) g.state v.named lawful own_key state-most in
+      ap length (v.tickets g given) ∙ ticket-long k name g.number (key_of k.expansion d root g.number) g.state v.named lawful key-long state-most in
       and_from (leb (ticketLeast k) (length g.ticket)) (leb (length g.ticket) (ticketLongest k))
       (le-leb (ticketLeast k) (length g.ticket) (omega (arith, shortest g.state (v.records g given))))
       (le-leb (length g.ticket) (ticketLongest k) (omega (arith, state-most)))
@@ -108,65 +99,53 @@ module _ (k : Kit) (lawful : Lawful k) (d : ℕ) (root name : List ℕ) (s : Slo
 
   -- the file that is read
   abbrev file : Sound
-  file = (headIn k d root name running s on b v, v.links)
-
-  read_is : read_by k d s on ≡ Ok file
-  read_is = ap (λ (p : Bool). read_by k d s p) (v.power refl) ∙ ap (readAs true) (reads_so k d root name running s on b deep v)
+  file = fileFor k name b.issued v.links
 
   -- nothing stops its redemption before the chain is searched
   verdict-is : (room marks : ℕ) → mostLength ≤ room → roomOf (length s) ≤ marks → redeemVerdict k d s on g.ticket room marks ≡ Ok file
   verdict-is room marks r m =
       cond-true (leb mostLength room && leb (roomOf (length s)) marks) _ _ (and_from (leb mostLength room) (leb (roomOf (length s)) marks) (le-leb mostLength room r) (le-leb (roomOf (length s)) marks m))
       ∙ cond-true (countFits d s) _ _ v.stands.fits
-      ∙ ap (redeemable k g.ticket) read_is
+      ∙ ap (redeemable k g.ticket) (inv-reads k d root name s on b deep v)
       ∙ cond-true (leb (ticketLeast k) (length g.ticket) && leb (length g.ticket) (ticketLongest k)) _ _ long-enough
       ∙ cond-true (sameBytes (nameIn g.ticket) name) _ _ name-is
       ∙ cond-true (ltb (number_in g.ticket) b.issued) _ _ was-issued
 
   -- a link that covers the ticket's number is x, with the tree's value: the number's key follows from it
-  link-is : (y : Link) → In y v.links → Covers d y.node (number_in g.ticket) → y.node ≡ x
-  link-is y i c =
-      let q = cover-link k.expansion d root b.spent v.links v.covers y i in
-      at_most_one d b.spent g.number y.node x q.1 here (subst (λ (n : ℕ). Covers d y.node n) number_is c) under
+  node-is : (y : Link) → In y v.links → Covers d y.node (number_in g.ticket) → y.node ≡ x
+  node-is y i c =
+      at_most_one d b.spent g.number y.node x (link-is k d root b.spent v.links v.covers y i).member here (subst (λ (n : ℕ). Covers d y.node n) number_is c) under
 
-  key-is : (y : Link) → In y v.links → Covers d y.node (number_in g.ticket) →
+  own-key : (y : Link) → In y v.links → Covers d y.node (number_in g.ticket) →
       keyFrom k.expansion d y.node y.value (number_in g.ticket) ≡ key_of k.expansion d root g.number
-  key-is y i c =
-      let q = cover-link k.expansion d root b.spent v.links v.covers y i in
-      ap₂ (λ (u : List ℕ) (n : ℕ). keyFrom k.expansion d y.node u n) q.2 number_is
-      ∙ (key-from k.expansion d root y.node g.number q.0 (subst (λ (n : ℕ). Covers d y.node n) number_is c)).same
+  own-key y i c = key-is k d root b.spent v.links v.covers y (number_in g.ticket) i c ∙ ap (key_of k.expansion d root) number_is
 
   seals : (y : Link) → In y v.links → Covers d y.node (number_in g.ticket) → Seals k d g.ticket y g.state
   seals y i c =
       record {
         short = state-most;
-        sealing = ap₂ (λ (a h : List ℕ). k.sealing a h g.state) (key-is y i c) heading-is ∙ sym sealed-is;
+        sealing = ap₂ (λ (a h : List ℕ). k.sealing a h g.state) (own-key y i c) heading-is ∙ sym sealed-is;
       }
 
   -- and no other plain is sealed in it
   plain-is : (y : Link) → In y v.links → Covers d y.node (number_in g.ticket) → (plain : List ℕ) → Seals k d g.ticket y plain → plain ≡ g.state
   plain-is y i c plain t =
       lawful.apart (keyFrom k.expansion d y.node y.value (number_in g.ticket)) (headingIn g.ticket) plain g.state
-      (ap length (key-is y i c) ∙ own_key)
+      (ap length (own-key y i c) ∙ key-long)
       (ap length heading-is ∙ heading-long k name g.number (key_of k.expansion d root g.number) g.state v.named)
       t.short state-most (t.sealing ∙ sym (seals y i c).sealing)
 
-  -- so the file found is the one read, and a link that is hit is on its chain
-  file-is : (f : Sound) (room marks : ℕ) → mostLength ≤ room → roomOf (length s) ≤ marks → redeemVerdict k d s on g.ticket room marks ≡ Ok f → f ≡ file
-  file-is f room marks r m q = let e = verdict-is room marks r m in cc
+  -- so the file found is the one read
+  found-is : (f : Sound) (room marks : ℕ) → redeemVerdict k d s on g.ticket room marks ≡ Ok f → f ≡ file
+  found-is f room marks q = file-is k d root name s on b deep v f (redeem-ok k d s on g.ticket room marks f q).read
 
-  hit-in : (room marks : ℕ) → mostLength ≤ room → roomOf (length s) ≤ marks → (f : Sound) (front : List Link) (y : Link) (back : List Link) →
-      Hit k d s on g.ticket room marks f front y back → In y v.links
-  hit-in room marks r m f front y back h =
-      let e : f ≡ file = file-is f room marks r m h.verdict in
-      let c : v.links ≡ front ++ (y ∷ back) = sym (ap (λ (z : Sound). z.1) e) ∙ h.chain in
-      subst (λ (l : List Link). In y l) (sym c) (in_right y front (y ∷ back) (inl refl))
+  on-chain : (room marks : ℕ) (f : Sound) (front : List Link) (y : Link) (back : List Link) → Hit k d s on g.ticket room marks f front y back → In y v.links
+  on-chain room marks f front y back h = hit-in k d root name s on b deep v g.ticket room marks f front y back h
 
   -- the link of x
   has-link : (y : Link) × In y v.links × Covers d y.node (number_in g.ticket)
   has-link =
-      let ns = nodes-are (value_of k.expansion d root) v.links (cover d b.spent) v.covers in
-      let t = link-of v.links x (subst (λ (l : List Node). In x l) (sym ns) here) in
+      let t = link-over k d root b.spent v.links v.covers x here in
       (t.0, t.1, subst (λ (n : ℕ). Covers d t.0.node n) (sym number_is) (subst (λ (z : Node). Covers d z g.number) (sym t.2) under))
 
   -- with room for the puncture and no cut, only the opening is left
@@ -178,29 +157,29 @@ module _ (k : Kit) (lawful : Lawful k) (d : ℕ) (root name : List ℕ) (s : Slo
       let z : ◌≡◌ {A = ℕ} 0 1 = cc in
       absurd (omega arith)
   opens-own free room marks lr lm r state t on' joined (spent f q no-link e u j) unc =
-      let w = file-is f room marks lr lm q in
+      let w = found-is f room marks q in
       let y = has-link in
       absurd (no-link y.0 (subst (λ (z : Sound). In y.0 z.1) (sym w) y.1) y.2)
   opens-own free room marks lr lm r state t on' joined (shut f front y back h no_plain e u j) unc =
-      absurd (no_plain g.state (seals y (hit-in room marks lr lm f front y back h) h.covers))
+      absurd (no_plain g.state (seals y (on-chain room marks f front y back h) h.covers))
   opens-own free room marks lr lm r state t on' joined (strange f front y back plain h se ir e u j) unc =
-      let p = plain-is y (hit-in room marks lr lm f front y back h) h.covers plain se in
+      let p = plain-is y (on-chain room marks f front y back h) h.covers plain se in
       let c : isRecord g.state ≡ true = v.records g given in
       let z : ◌≡◌ {A = ℕ} 0 1 = cc in
       absurd (omega arith)
   opens-own free room marks lr lm r state t on' joined (full f front y back plain h se ir few e u j) unc =
-      let n : y.node ≡ x = link-is y (hit-in room marks lr lm f front y back h) h.covers in
-      let w : f ≡ file = file-is f room marks lr lm h.verdict in
+      let n : y.node ≡ x = node-is y (on-chain room marks f front y back h) h.covers in
+      let w : f ≡ file = found-is f room marks h.verdict in
       let c : length f.1 ≡ length v.links = ap (λ (z : Sound). length z.1) w in
-      let a : length v.links ≡ length (cover d b.spent) = as_many (value_of k.expansion d root) v.links (cover d b.spent) v.covers in
+      let a : length v.links ≡ length (cover d b.spent) = link-count k d root b.spent v.links v.covers in
       let e2 : y.node.depth ≡ x.depth = ap (λ (z : Node). z.depth) n in
       absurd (omega arith)
   opens-own free room marks lr lm r state t on' joined (cut f front y back plain fs m h hit se ready short e o z j) unc =
       absurd (unc h e (ap (λ (w : Halt). w.refusal) short.halt))
   opens-own free room marks lr lm r state t on' joined (opened f front y back plain fs h se ready tq o j e st) unc =
-      let i = hit-in room marks lr lm f front y back h in
+      let i = on-chain room marks f front y back h in
       let p : plain ≡ g.state = plain-is y i h.covers plain se in
-      let n : y.node ≡ x = link-is y i h.covers in (
+      let n : y.node ≡ x = node-is y i h.covers in (
         by_levels e ∙ ap₂ (λ (l : List ℕ) (z : Node). Ok (length l, d - z.depth)) p n,
         st ∙ ap (λ (l : List ℕ). filled l room) p,
       )
@@ -208,10 +187,10 @@ module _ (k : Kit) (lawful : Lawful k) (d : ℕ) (root name : List ℕ) (s : Slo
   no_room : length s - 1 - length (cover d b.spent) < d - x.depth → (room marks : ℕ) → mostLength ≤ room → roomOf (length s) ≤ marks →
       (f : Sound) (front : List Link) (y : Link) (back : List Link) → Hit k d s on g.ticket room marks f front y back → d - y.node.depth ≤ freeCount s f.1 → ⊥
   no_room tight room marks lr lm f front y back h enough =
-      let n : y.node ≡ x = link-is y (hit-in room marks lr lm f front y back h) h.covers in
-      let w : f ≡ file = file-is f room marks lr lm h.verdict in
+      let n : y.node ≡ x = node-is y (on-chain room marks f front y back h) h.covers in
+      let w : f ≡ file = found-is f room marks h.verdict in
       let c : length f.1 ≡ length v.links = ap (λ (z : Sound). length z.1) w in
-      let a : length v.links ≡ length (cover d b.spent) = as_many (value_of k.expansion d root) v.links (cover d b.spent) v.covers in
+      let a : length v.links ≡ length (cover d b.spent) = link-count k d root b.spent v.links v.covers in
       let e2 : y.node.depth ≡ x.depth = ap (λ (z : Node). z.depth) n in
       omega arith
 
@@ -223,13 +202,13 @@ module _ (k : Kit) (lawful : Lawful k) (d : ℕ) (root name : List ℕ) (s : Slo
       let z : ◌≡◌ {A = ℕ} 0 1 = cc in
       absurd (omega arith)
   full-own tight room marks lr lm r state t on' joined (spent f q no-link e u j) =
-      let w = file-is f room marks lr lm q in
+      let w = found-is f room marks q in
       let y = has-link in
       absurd (no-link y.0 (subst (λ (z : Sound). In y.0 z.1) (sym w) y.1) y.2)
   full-own tight room marks lr lm r state t on' joined (shut f front y back h no_plain e u j) =
-      absurd (no_plain g.state (seals y (hit-in room marks lr lm f front y back h) h.covers))
+      absurd (no_plain g.state (seals y (on-chain room marks f front y back h) h.covers))
   full-own tight room marks lr lm r state t on' joined (strange f front y back plain h se ir e u j) =
-      let p = plain-is y (hit-in room marks lr lm f front y back h) h.covers plain se in
+      let p = plain-is y (on-chain room marks f front y back h) h.covers plain se in
       let c : isRecord g.state ≡ true = v.records g given in
       let z : ◌≡◌ {A = ℕ} 0 1 = cc in
       absurd (omega arith)

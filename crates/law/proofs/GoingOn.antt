@@ -19,9 +19,10 @@ use Rattle.rules.specs.Calls.{Sound, countFits, slotsLeast, slotsMost, reopenVer
 use Rattle.rules.specs.Books.{Given, Book, freshBook, issue, redeem, reopen, fed}
 use Rattle.rules.specs.Pasts.{Mode, running, cold, Past, issued, redeemed, reopened}
 use Rattle.law.specs.GoingOn.{IssueOutcome, RedeemOutcome, IsSealed, Opens, PastsGoOn}
-use Rattle.law.proofs.Invariant.{headFor, Inv}
+use Rattle.law.proofs.Invariant.{headFor, fileFor, Inv}
 use Rattle.law.proofs.TicketParts.{heading-in, sealed-in, number-in}
-use Rattle.law.proofs.Readings.{inv-file, inv-read, key-is}
+use Rattle.law.proofs.Links.{key-is}
+use Rattle.law.proofs.Readings.{inv-file, inv-read}
 use Rattle.law.proofs.PastKeeps.{past-keeps}
 use Rattle.law.proofs.FromInv.{sound-links}
 use Rattle.law.proofs.Telling.{uncut-running}
@@ -95,7 +96,7 @@ reopens : (k : Kit) (root name : List ℕ) (s : Slots) (on : Bool) (b : Book) �
     (t : Slots) × Reopening k treeLevels s on marks (Ok tt) t true × Past k treeLevels root name running t true (fed b (reopen (Ok tt)))
 reopens k root name s on b p marks enough =
     let v = holding k root name cold s on b p in
-    let f : Sound = (headFor k name b.issued (entry v.links 0), v.links) in
+    let f : Sound = fileFor k name b.issued v.links in
     let t = stood s (sweepWrites s f.1) in
     let verdict : reopenVerdict treeLevels s marks ≡ Ok tt =
     cond-true (leb (roomOf (length s)) marks) _ (Err (plainly ShortBuffer)) (le-leb (roomOf (length s)) marks enough)

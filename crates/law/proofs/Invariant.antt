@@ -23,6 +23,10 @@ Linked s (x ∷ xs) i = (0 < x.slot) × (x.slot < length s) × (get_or s x.slot 
 abbrev pub headFor : Kit → List ℕ → ℕ → ℕ → Head
 headFor k name issued i = record { first = i; issued = issued; name = name; generator = k.generator; sealer = k.sealer }
 
+-- the head and the chain that are then read
+abbrev pub fileFor : Kit → List ℕ → ℕ → List Link → Head × List Link
+fileFor k name issued xs = (headFor k name issued (entry xs 0), xs)
+
 -- the file with so many numbers issued and these links stands in the slots
 pub record Stands (k : Kit) (d : ℕ) (name : List ℕ) (issued : ℕ) (s : Slots) (xs : List Link) : Type 0 where
   pub fits : countFits d s ≡ true

@@ -17,14 +17,15 @@ use Rattle.rules.specs.Tickets.{ticketOf}
 use Rattle.steps.specs.OneStep.{Write}
 use Rattle.steps.specs.Writes.{stood, CutShort}
 use Rattle.rules.specs.Files.{entry, recounted, issueWrite}
-use Rattle.rules.specs.Calls.{Sound, Outcome, read_by, issuedTicket, issueVerdict, Issuing, declined, cut, given}
+use Rattle.rules.specs.Calls.{Sound, Outcome, issuedTicket, issueVerdict, Issuing, declined, cut, given}
 use Rattle.rules.specs.Books.{Given, Book, raised, issue, fed}
 use Rattle.rules.specs.Pasts.{Mode, running, cold, modeAfter}
 use Rattle.law.specs.Law.{RestBlank}
-use Rattle.law.proofs.Invariant.{headFor, Stands, Inv}
+use Rattle.law.proofs.Invariant.{headFor, fileFor, Stands, Inv}
 use Rattle.law.proofs.Frames.{count-least, count_kept, linked-set}
 use Rattle.law.proofs.Chains.{not-zero}
-use Rattle.law.proofs.Readings.{cold-not-running, inv-read, key-is, MayIssue, issue-ok, still, cooled}
+use Rattle.law.proofs.Links.{key-is}
+use Rattle.law.proofs.Readings.{cold-not-running, file-is, MayIssue, issue-ok, still, cooled}
 
 -- ---- the head with one more number issued
 pub recounted-head : (k : Kit) (d : ℕ) (name : List ℕ) (issued i n : ℕ) → recounted n (encodeHead d (headFor k name issued i)) ≡ encodeHead d (headFor k name n i)
@@ -97,23 +98,21 @@ alone w c (u ∷ front) back e =
 
 module _ (k : Kit) (d : ℕ) (root name : List ℕ) (s : Slots) (on : Bool) (b : Book) (plain : List ℕ) (room marks : ℕ)
     (small : d ≤ 16) (v : Inv k d root name running s on b) (f : Sound) (verdict : issueVerdict k d s on plain room marks ≡ Ok f) where
-  g : Sound
-  g = (headFor k name b.issued (entry v.links 0), v.links)
+  may : MayIssue k d s on plain f
+  may = issue-ok k d s on plain room marks f verdict
 
-  may : MayIssue d g f plain
-  unfolding g
-  may = issue-ok k d s on plain room marks f g (subst (λ (o : Bool). read_by k d s o ≡ Ok g) (sym (v.power refl)) (inv-read k d root name running s on b small v)) verdict
+  file : f ≡ fileFor k name b.issued v.links
+  file = file-is k d root name s on b small v f may.read
 
   after : Slots
   after = set s 0 (recounted (b.issued + 1) (get_or s 0 []))
 
   wrote : stood s (issueWrite s f.0 ∷ []) ≡ after
-  unfolding g after
-  wrote = ap (λ (p : Sound). stood s (issueWrite s p.0 ∷ [])) may.file
+  unfolding after
+  wrote = ap (λ (p : Sound). stood s (issueWrite s p.0 ∷ [])) file
 
   left : b.issued < 2 ^ d
-  unfolding g
-  left = may.left
+  left = subst (λ (p : Sound). p.0.issued < 2 ^ d) file may.left
 
   -- the invariant once the write stands
   counts : (m' : Mode) (on' : Bool) (gs : List Given) → (m' ≡ running → on' ≡ true) → ((n : Given) → In n gs → Own k d root name (b.issued + 1) n) →
@@ -146,11 +145,10 @@ module _ (k : Kit) (d : ℕ) (root name : List ℕ) (s : Slots) (on : Bool) (b :
   -- the ticket that is given is the number's own
   given_is : (x : Link) → In x f.1 → Covers d x.node f.0.issued →
       issuedTicket k d f.0 x plain ≡ ticketOf k name b.issued (key_of k.expansion d root b.issued) plain
-  unfolding g
   given_is x i c =
-      let j : In x v.links = subst (λ (p : Sound). In x p.1) may.file i in
-      let n : Covers d x.node b.issued = subst (λ (p : Sound). Covers d x.node p.0.issued) may.file c in
-      ap (λ (p : Sound). issuedTicket k d p.0 x plain) may.file
+      let j : In x v.links = subst (λ (p : Sound). In x p.1) file i in
+      let n : Covers d x.node b.issued = subst (λ (p : Sound). Covers d x.node p.0.issued) file c in
+      ap (λ (p : Sound). issuedTicket k d p.0 x plain) file
       ∙ ap (λ (key : List ℕ). ticketOf k name b.issued key plain) (key-is k d root b.spent v.links v.covers x b.issued j n)
 
   handed : (x : Link) → In x f.1 → Covers d x.node f.0.issued → (steps : ℕ) →

@@ -1,4 +1,5 @@
 pub mod Invariant
+pub mod Links
 pub mod ReadsBack
 pub mod TicketParts
 pub mod FromInv

@@ -1,6 +1,6 @@
 -- Every call has an outcome without a cut, whatever the slots hold.
 use Rattle.std.proofs.Common.{◌≡◌, ℕ, zero, suc, ◌-◌, ◌^◌, ◌<◌, ◌≤◌, Bool, true, false, cond, ◌&&◌, ltb, leb, ◌≢◌, List, [], ◌∷◌, length, take, Some, None, Option, Ok, Err, Result, sym, refl, ap, ◌∙◌, subst, inl, inr, arith, length-take-le}
-use Rattle.std.proofs.lemmas.Bool.{cases_lt, ltb-true, both_ways}
+use Rattle.std.proofs.lemmas.Bool.{cases_lt, both_ways}
 use Rattle.octets.specs.Buffers.{zeros, filled}
 use Rattle.refusal.specs.declared.Refusal.{Refusal}
 use Rattle.refusal.specs.declared.Refusal.TheVariants.{ShortBuffer, SlotCount, NotARecord, BadHead, BadLink, Uncovered, Exhausted, TicketLength, OtherName, NotIssued, Spent, SealBroken, OpenedNotARecord, NoFreeSlot, NoPower}
@@ -33,8 +33,8 @@ use Rattle.rules.specs.Pasts.{isNoPower}
 use Rattle.law.specs.Law.{Uncut}
 use Rattle.law.specs.GoingOn.{MakeOutcome, ReopenOutcome, IssueOutcome, RedeemOutcome, Opens, CallsHaveOutcomes}
 use Rattle.law.proofs.Frames.{in_take}
-use Rattle.law.proofs.ReadsBack.{in_map, link-of}
-use Rattle.law.proofs.Readings.{cond-ok, ok_same}
+use Rattle.law.proofs.Links.{in_map, link-of}
+use Rattle.law.proofs.Readings.{ok_same, issue-ok, redeem-ok}
 
 -- ---- what stops a call while the power is on
 err-same : {A : Type 0} (h k : Halt) → ◌≡◌ {A = Result A Halt} (Err h) (Err k) → h ≡ k
@@ -94,39 +94,6 @@ read-sound (badLink i) f e = let z : ◌≡◌ {A = ℕ} 0 1 = cc in absurd (ome
 read-sound (uncovered n) f e = let z : ◌≡◌ {A = ℕ} 0 1 = cc in absurd (omega arith)
 read-sound (sound h xs) f e = let q : (h, xs) ≡ f = ok_same (h, xs) f e in ap (λ (p : Sound). sound p.0 p.1) q
 
-issuable-ok : (d : ℕ) (r : Result Sound Halt) (f : Sound) → issuable d r ≡ Ok f → (r ≡ Ok f) × (f.0.issued < 2 ^ d)
-issuable-ok d (Err h) f e = let z : ◌≡◌ {A = ℕ} 0 1 = cc in absurd (omega arith)
-issuable-ok d (Ok g) f e =
-    let p = cond-ok (ltb g.0.issued (2 ^ d)) (Ok g) (plainly Exhausted) f e in
-    (p.1, subst (λ (z : Sound). z.0.issued < 2 ^ d) (ok_same g f p.1) (ltb-true g.0.issued (2 ^ d) p.0))
-
-redeemable-ok : (k : Kit) (ticket : List ℕ) (r : Result Sound Halt) (f : Sound) → redeemable k ticket r ≡ Ok f → r ≡ Ok f
-redeemable-ok k ticket (Err h) f e = let z : ◌≡◌ {A = ℕ} 0 1 = cc in absurd (omega arith)
-redeemable-ok k ticket (Ok g) f e =
-    let n = number_in ticket in
-    let inner : Result Sound Halt = cond (ltb n g.0.issued) (Ok g) (Err (placed NotIssued n)) in
-    let a = cond-ok (leb (ticketLeast k) (length ticket) && leb (length ticket) (ticketLongest k)) (cond (sameBytes (nameIn ticket) g.0.name) inner (Err (plainly OtherName))) (plainly TicketLength) f e in
-    let b = cond-ok (sameBytes (nameIn ticket) g.0.name) inner (plainly OtherName) f a.1 in
-    (cond-ok (ltb n g.0.issued) (Ok g) (placed NotIssued n) f b.1).1
-
-module _ (k : Kit) (d : ℕ) (s : Slots) where
-  issue-reads : (plain : List ℕ) (room marks : ℕ) (f : Sound) → issueVerdict k d s true plain room marks ≡ Ok f → (fileOf d k.generator k.sealer s ≡ sound f.0 f.1) × (f.0.issued < 2 ^ d)
-  issue-reads plain room marks f e =
-      let r = read_by k d s true in
-      let last = cond (isRecord plain) (issuable d r) (Err (plainly NotARecord)) in
-      let a = cond-ok (leb ticketMost room && leb (roomOf (length s)) marks) (cond (countFits d s) last (Err (plainly SlotCount))) (plainly ShortBuffer) f e in
-      let b = cond-ok (countFits d s) last (plainly SlotCount) f a.1 in
-      let c = cond-ok (isRecord plain) (issuable d r) (plainly NotARecord) f b.1 in
-      let p = issuable-ok d r f c.1 in
-      (read-sound (fileOf d k.generator k.sealer s) f p.0, p.1)
-
-  redeem-reads : (ticket : List ℕ) (room marks : ℕ) (f : Sound) → redeemVerdict k d s true ticket room marks ≡ Ok f → fileOf d k.generator k.sealer s ≡ sound f.0 f.1
-  redeem-reads ticket room marks f e =
-      let r = read_by k d s true in
-      let a = cond-ok (leb mostLength room && leb (roomOf (length s)) marks) (cond (countFits d s) (redeemable k ticket r) (Err (plainly SlotCount))) (plainly ShortBuffer) f e in
-      let b = cond-ok (countFits d s) (redeemable k ticket r) (plainly SlotCount) f a.1 in
-      read-sound (fileOf d k.generator k.sealer s) f (redeemable-ok k ticket r f b.1)
-
 -- ---- an issue
 module _ (k : Kit) (d : ℕ) (s : Slots) (plain : List ℕ) (room marks : ℕ) where
   issue-at : (v : Result Sound Halt) → issueVerdict k d s true plain room marks ≡ v → IssueOutcome k d s true plain room marks
@@ -140,9 +107,9 @@ module _ (k : Kit) (d : ℕ) (s : Slots) (plain : List ℕ) (room marks : ℕ) w
     uncut = uncut-err h (subst Uncut e (issue-uncut k d s plain room marks) h refl);
   }
   issue-at (Ok f) e =
-      let r = issue-reads k d s plain room marks f e in
-      let file = to-sound d k.generator k.sealer s f.0 f.1 r.0 in
-      let y = file.unissued f.0.issued (omega arith) r.1 in
+      let may = issue-ok k d s true plain room marks f e in
+      let file = to-sound d k.generator k.sealer s f.0 f.1 (read-sound (fileOf d k.generator k.sealer s) f may.read) in
+      let y = file.unissued f.0.issued (omega arith) may.left in
       let l = link-of f.1 y.0 y.1 in
       let T = issuedTicket k d f.0 l.0 plain in
       record {
@@ -208,9 +175,12 @@ module _ (k : Kit) (d : ℕ) (s : Slots) (ticket : List ℕ) (room marks : ℕ) 
   untouched : Untouched s true room (zeros room) s true
   untouched = record { slots = refl; power = refl; zero = refl }
 
+  reads-file : (f : Sound) → redeemVerdict k d s true ticket room marks ≡ Ok f → fileOf d k.generator k.sealer s ≡ sound f.0 f.1
+  reads-file f e = read-sound (fileOf d k.generator k.sealer s) f (redeem-ok k d s true ticket room marks f e).read
+
   module _ (f : Sound) (verdict : redeemVerdict k d s true ticket room marks ≡ Ok f) where
     file : SoundFile d k.generator k.sealer s f.0 f.1
-    file = to-sound d k.generator k.sealer s f.0 f.1 (redeem-reads k d s ticket room marks f verdict)
+    file = to-sound d k.generator k.sealer s f.0 f.1 (reads-file f verdict)
 
     -- of a ticket that is opened
     module _ (front : List Link) (x : Link) (back : List Link) (hit : Hit k d s true ticket room marks f front x back) (plain : List ℕ) (seals : Seals k d ticket x plain) where
@@ -264,7 +234,7 @@ module _ (k : Kit) (d : ℕ) (s : Slots) (ticket : List ℕ) (room marks : ℕ) 
       let n = subst Uncut e (redeem-uncut k d s ticket room marks) h refl in
       stays h n (Redeeming.declined h e refl untouched refl)
   redeem-at told (Ok f) e =
-      found f e (findIn d (number_in ticket) 0 f.1) refl (λ x i c. told f.0 f.1 x (redeem-reads k d s ticket room marks f e) i c)
+      found f e (findIn d (number_in ticket) 0 f.1) refl (λ x i c. told f.0 f.1 x (reads-file f e) i c)
 
 -- ---- a reopening, and a make
 reopen-uncut : (d : ℕ) (s : Slots) (marks : ℕ) → Uncut (reopenVerdict d s marks)

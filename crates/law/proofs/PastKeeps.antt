@@ -1,5 +1,5 @@
 -- What holds after every past, by induction over its calls.
-use Rattle.std.proofs.Common.{◌≡◌, ℕ, ◌+◌, ◌≤◌, Bool, ◌⊎◌, List, [], ◌∷◌, ◌++◌, get_or, take, Ok, sym, refl, ap, ◌∙◌, subst, inl, inr}
+use Rattle.std.proofs.Common.{◌≡◌, ℕ, ◌+◌, ◌≤◌, Bool, ◌⊎◌, List, [], ◌∷◌, ◌++◌, get_or, take, sym, refl, ap, ◌∙◌, subst, inl, inr}
 use Rattle.device.specs.Effects.{Slot, Slots}
 use Rattle.fault.specs.declared.Step.TheVariants.{NewRecord}
 use Rattle.layout.specs.declared.Head.{Head}
@@ -10,13 +10,13 @@ use Rattle.chain.specs.Reading.{Link}
 use Rattle.rules.specs.Kits.{Kit}
 use Rattle.steps.specs.OneStep.{Write}
 use Rattle.rules.specs.Files.{entry, lastSlot, recordOf, relinked, recounted, issueWrite, newWrites, joinWrite, eraseWrite, redeemWrites}
-use Rattle.rules.specs.Calls.{Sound, Outcome, read_by, newLinks, Hit, Issuing, Redeeming, Issuing.declined, Issuing.cut, Issuing.given, Redeeming.spent, Redeeming.shut, Redeeming.strange, Redeeming.full, Redeeming.opened}
+use Rattle.rules.specs.Calls.{Outcome, newLinks, Issuing, Redeeming, Issuing.declined, Issuing.cut, Issuing.given, Redeeming.spent, Redeeming.shut, Redeeming.strange, Redeeming.full, Redeeming.opened}
 use Rattle.rules.specs.Tickets.{number_in}
 use Rattle.rules.specs.Books.{Book}
 use Rattle.rules.specs.Pasts.{Mode, running, cold, Past, made, issued, redeemed, closed, reopened}
 use Rattle.law.proofs.Invariant.{Linked, headFor, Inv}
 use Rattle.law.proofs.Frames.{in_take}
-use Rattle.law.proofs.Readings.{inv-read, redeem-ok, cooled}
+use Rattle.law.proofs.Readings.{hit-chain, cooled}
 use Rattle.law.proofs.RedeemKeeps.{redeem-keeps}
 use Rattle.law.proofs.IssueKeeps.{issue-keeps}
 use Rattle.law.proofs.ReopenKeeps.{Whole, Definite, whole-stood, reopen-holds}
@@ -101,16 +101,6 @@ module _ (k : Kit) (d : ℕ) (root name : List ℕ) (s : Slots) (on : Bool) (b :
         ]
       ]
 
--- the chain that a redemption found is the one that stands
-pub hit-chain : (k : Kit) (d : ℕ) (root name : List ℕ) (s : Slots) (on : Bool) (b : Book) (ticket : List ℕ) (room marks : ℕ)
-    (f : Sound) (front : List Link) (x : Link) (back : List Link) → d ≤ 16 → (v : Inv k d root name running s on b) →
-    Hit k d s on ticket room marks f front x back → v.links ≡ front ++ (x ∷ back)
-hit-chain k d root name s on b ticket room marks f front x back small v h =
-    let g : Sound = (headFor k name b.issued (entry v.links 0), v.links) in
-    let e : read_by k d s on ≡ Ok g = subst (λ (o : Bool). read_by k d s o ≡ Ok g) (sym (v.power refl)) (inv-read k d root name running s on b small v) in
-    let may = redeem-ok k d s on ticket room marks f g e h.verdict in
-    sym (ap (λ (p : Sound). p.1) may.file) ∙ h.chain
-
 pub redeem-whole : (k : Kit) (d : ℕ) (root name : List ℕ) (s : Slots) (on : Bool) (b : Book) (ticket : List ℕ) (room marks : ℕ) (r : Outcome) (state : List ℕ) (t : Slots) (on' joined : Bool) →
     d ≤ 16 → Inv k d root name running s on b → Whole s → Redeeming k d s on ticket room marks r state t on' joined → Whole t
 redeem-whole k d root name s on b ticket room marks r state t on' joined small v w (Redeeming.declined h verdict e u q) = subst Whole (sym u.slots) w
@@ -119,12 +109,12 @@ redeem-whole k d root name s on b ticket room marks r state t on' joined small v
 redeem-whole k d root name s on b ticket room marks r state t on' joined small v w (strange f front x back plain hit sl n e u q) = subst Whole (sym u.slots) w
 redeem-whole k d root name s on b ticket room marks r state t on' joined small v w (full f front x back plain hit sl n l e u q) = subst Whole (sym u.slots) w
 redeem-whole k d root name s on b ticket room marks r state t on' joined small v w (Redeeming.cut f front x back plain fs m h hit sl ready c e p z q) =
-    let chain = hit-chain k d root name s on b ticket room marks f front x back small v hit in
+    let chain = hit-chain k d root name s on b small v ticket room marks f front x back hit in
     let new = newLinks k d x (number_in ticket) fs in
     let ws = redeemWrites s front x back new in
     subst Whole (sym c.slots) (whole-stood (take m ws) s (λ u i. redeem-definite k d root name s on b v front x back new chain u (in_take u m ws i)) w)
 redeem-whole k d root name s on b ticket room marks r state t on' joined small v w (opened f front x back plain fs hit sl ready z p q e l) =
-    let chain = hit-chain k d root name s on b ticket room marks f front x back small v hit in
+    let chain = hit-chain k d root name s on b small v ticket room marks f front x back hit in
     let new = newLinks k d x (number_in ticket) fs in
     subst Whole (sym z) (whole-stood (redeemWrites s front x back new) s (redeem-definite k d root name s on b v front x back new chain) w)
 

@@ -1,68 +1,23 @@
 -- A file that stands in the slots, with the chain of a cover, reads as itself.
-use Rattle.std.proofs.Common.{◌≡◌, ℕ, ◌-◌, ◌%◌, ◌^◌, ◌<◌, ◌≤◌, ◌&&◌, eqb, ltb, leb, List, [], ◌∷◌, map, length, sym, refl, ap, ◌∙◌, subst, ap₂, inl, inr, arith, pow_mono}
-use Rattle.std.proofs.lemmas.List.{length-map}
+use Rattle.std.proofs.Common.{◌≡◌, ℕ, ◌-◌, ◌%◌, ◌^◌, ◌<◌, ◌≤◌, ◌&&◌, eqb, ltb, leb, List, [], ◌∷◌, map, length, sym, refl, ap, ◌∙◌, subst, inl, inr, arith, pow_mono}
 use Rattle.std.proofs.lemmas.Bool.{and_parts, and_from, eq-eqb, lt-ltb, le-leb, leb-true}
 use Rattle.device.specs.Effects.{Slots}
 use Rattle.layout.specs.Trips.{NodeFits}
 use Rattle.tree.specs.declared.Node.{Node}
 use Rattle.tree.specs.Nodes.{width_of, IsNode}
-use Rattle.tree.specs.Cover.{In, cover}
-use Rattle.tree.specs.Values.{Expansion, Valued, value_of, valued, valuedCover}
+use Rattle.tree.specs.Cover.{In}
+use Rattle.tree.specs.Values.{valuedCover}
 use Rattle.tree.proofs.Members.{depth, first}
-use Rattle.tree.proofs.Places.{characterised}
-use Rattle.tree.proofs.Keys.{of-valued}
 use Rattle.tree.proofs.Shapes.{node-to}
 use Rattle.chain.specs.Reading.{Link, valuedOf, sound, fileOf}
 use Rattle.chain.specs.Listing.{first_slot}
-use Rattle.chain.specs.Sound.{nodesOf, fields_of, Linked as LaidLinks}
+use Rattle.chain.specs.Sound.{fields_of, Linked as LaidLinks}
 use Rattle.chain.proofs.Backs.{file-laws}
 use Rattle.rules.specs.Kits.{Kit, nameLength}
 use Rattle.rules.specs.Files.{entry, recordOf}
 use Rattle.rules.specs.Calls.{slotsLeast, slotsMost}
 use Rattle.law.proofs.Invariant.{Linked, headFor, Stands}
-
--- ---- the nodes and values of a chain
--- a chain with a list's nodes and values has the list's nodes
-pub nodes-are : (f : Node → List ℕ) (xs : List Link) (ns : List Node) → map valuedOf xs ≡ valued f ns → nodesOf xs ≡ ns
-nodes-are f [] [] q = refl
-nodes-are f [] (n ∷ ns) q = let z : ◌≡◌ {A = ℕ} 0 1 = cc in absurd (omega arith)
-nodes-are f (x ∷ xs) [] q = let z : ◌≡◌ {A = ℕ} 0 1 = cc in absurd (omega arith)
-nodes-are f (x ∷ xs) (n ∷ ns) q =
-    let a : ◌≡◌ {A = Valued} (x.node, x.value) (n, f n) = cc in
-    let t : map valuedOf xs ≡ valued f ns = cc in
-    ap₂ (λ (y : Node) (l : List Node). y ∷ l) (ap (λ (z : Valued). z.0) a) (nodes-are f xs ns t)
-
-pub as_many : (f : Node → List ℕ) (xs : List Link) (ns : List Node) → map valuedOf xs ≡ valued f ns → length xs ≡ length ns
-as_many f xs ns q = sym (length-map xs (λ (x : Link). x.node)) ∙ ap length (nodes-are f xs ns q)
-
-pub in_map : {A B : Type 0} (f : A → B) (x : A) (xs : List A) → In x xs → In (f x) (map f xs)
-in_map f x [] i = absurd i
-in_map f x (y ∷ ys) (inl e) = inl (ap f e)
-in_map f x (y ∷ ys) (inr i) = inr (in_map f x ys i)
-
-value-at : (f : Node → List ℕ) (ns : List Node) (x : Node) (u : List ℕ) → In (x, u) (valued f ns) → u ≡ f x
-value-at f (y ∷ ys) x u (inl q) = ap (λ (z : Valued). z.1) q ∙ ap f (sym (ap (λ (z : Valued). z.0) q))
-value-at f (y ∷ ys) x u (inr i) = value-at f ys x u i
-value-at f [] x u i = absurd i
-
--- each link's node is one of the list, with the value that the list has for it
-pub link-in : (f : Node → List ℕ) (xs : List Link) (ns : List Node) → map valuedOf xs ≡ valued f ns → (x : Link) → In x xs → In x.node ns × (x.value ≡ f x.node)
-link-in f xs ns q x i =
-    let j : In (valuedOf x) (valued f ns) = subst (λ (l : List Valued). In (valuedOf x) l) q (in_map valuedOf x xs i) in
-    (of-valued f ns x.node x.value j, value-at f ns x.node x.value j)
-
--- and each node of a chain is a link's
-pub link-of : (xs : List Link) (y : Node) → In y (nodesOf xs) → (x : Link) × In x xs × (x.node ≡ y)
-link-of (x ∷ xs) y (inl q) = (x, inl refl, sym q)
-link-of (x ∷ xs) y (inr i) = let t = link-of xs y i in (t.0, inr t.1, t.2)
-link-of [] y i = absurd i
-
--- in the chain of a cover each link has a node of the tree, with the tree's value
-pub cover-link : (g : Expansion) (d : ℕ) (root spent : List ℕ) (xs : List Link) → map valuedOf xs ≡ valuedCover g d root spent →
-    (x : Link) → In x xs → IsNode d x.node × In x.node (cover d spent) × (x.value ≡ value_of g d root x.node)
-cover-link g d root spent xs q x i =
-    let t = link-in (value_of g d root) xs (cover d spent) q x i in
-    (((characterised d spent x.node).0 t.0).0, t.0, t.1)
+use Rattle.law.proofs.Links.{nodes-are, link-is}
 
 -- ---- the file as it is laid out
 first-is : (xs : List Link) → entry xs 0 ≡ first_slot xs
@@ -108,6 +63,6 @@ reads-back k d root name issued spent s xs dl st nl il below q =
       bytes = st.head;
       fits = record { first = small; issued = il; word = omega arith; name = nl };
       first = first-is xs;
-      links = links-laid d s xs dl few (λ x i. (cover-link k.expansion d root spent xs q x i).0) st.links;
+      links = links-laid d s xs dl few (λ x i. (link-is k d root spent xs q x i).isNode) st.links;
     })
-    (nodes-are (value_of k.expansion d root) xs (cover d spent) q) below
+    (nodes-are k d root spent xs q) below

@@ -1,12 +1,11 @@
 -- Redeeming keeps what holds: refused it leaves all as it is, cut it leaves the old chain or the new one, and done the new one with zeros besides.
-use Rattle.std.proofs.Common.{◌≡◌, ℕ, zero, suc, ◌+◌, ◌-◌, ◌<◌, ◌≤◌, Bool, true, false, cond, ◌&&◌, ltb, leb, List, [], ◌∷◌, ◌++◌, map, length, take, Ok, Err, Result, sym, refl, ap, ◌∙◌, subst, inl, inr, arith}
+use Rattle.std.proofs.Common.{◌≡◌, ℕ, zero, suc, ◌+◌, ◌-◌, ◌<◌, ◌≤◌, Bool, true, false, ltb, List, [], ◌∷◌, ◌++◌, map, length, take, Ok, Err, sym, refl, ap, ◌∙◌, subst, inl, inr, arith}
 use Rattle.std.proofs.lemmas.List.{length-append, take-append-le, take_all}
-use Rattle.std.proofs.lemmas.Bool.{cases_lt, lt-ltb, le-ltb, ltb-true}
-use Rattle.refusal.specs.declared.Refusal.TheVariants.{ShortBuffer, SlotCount, TicketLength, OtherName, NotIssued, Spent, SealBroken, OpenedNotARecord, NoFreeSlot}
+use Rattle.std.proofs.lemmas.Bool.{cases_lt, lt-ltb, le-ltb}
+use Rattle.refusal.specs.declared.Refusal.TheVariants.{Spent, SealBroken, OpenedNotARecord, NoFreeSlot}
 use Rattle.fault.specs.declared.Halt.{Halt}
-use Rattle.fault.specs.Faults.{plainly, placed, unpowered}
+use Rattle.fault.specs.Faults.{placed, unpowered}
 use Rattle.device.specs.Effects.{Slots}
-use Rattle.session.specs.Limits.{mostLength}
 use Rattle.tree.specs.declared.Node.{Node}
 use Rattle.tree.specs.Cover.{In, Distinct, cover}
 use Rattle.tree.specs.Puncture.{siblingsFrom}
@@ -15,47 +14,20 @@ use Rattle.tree.proofs.Members.{in_right}
 use Rattle.tree.proofs.Places.{cover-free}
 use Rattle.tree.proofs.Flanks.{length-siblings}
 use Rattle.tree.proofs.Keys.{uncut, punctured-values}
-use Rattle.marks.specs.Rows.{roomOf}
-use Rattle.chain.specs.Reading.{Link, File, valuedOf, slots_of, fileOf}
+use Rattle.chain.specs.Reading.{Link, valuedOf, slots_of}
 use Rattle.rules.specs.Kits.{Kit}
-use Rattle.rules.specs.Tickets.{nameIn, number_in, ticketLeast, ticketLongest}
+use Rattle.rules.specs.Tickets.{number_in}
 use Rattle.steps.specs.OneStep.{Write}
 use Rattle.steps.specs.Writes.{stood, CutShort}
 use Rattle.rules.specs.Files.{entry, linksIn, newWrites, joinWrite, eraseWrite, redeemWrites}
-use Rattle.rules.specs.Calls.{Sound, Outcome, countFits, readAs, read_by, sameBytes, Untouched, redeemable, redeemVerdict, Hit, newLinks, Ready, Redeeming}
+use Rattle.rules.specs.Calls.{Sound, Outcome, Untouched, Hit, newLinks, Ready, Redeeming}
 use Rattle.rules.specs.Books.{Book, redeem, fed}
 use Rattle.rules.specs.Pasts.{Mode, running, cold, modeAfter}
 use Rattle.law.specs.Law.{RestBlank}
-use Rattle.law.proofs.Invariant.{headFor, Stands, Inv}
+use Rattle.law.proofs.Invariant.{Stands, Inv}
 use Rattle.law.proofs.Chains.{valued-of-append}
-use Rattle.law.proofs.ReadsBack.{reads-back}
+use Rattle.law.proofs.Readings.{cold-not-running, moved, redeem-ok, file-is, hit-chain}
 use Rattle.law.proofs.Splice.{links-slots, links-valued, length-links, length-writes, unjoined, joins, erases, rest-blank}
-
--- ---- what a verdict says
-pub cond-ok : (c : Bool) (u : Result Sound Halt) (e : Halt) (f : Sound) → cond c u (Err e) ≡ Ok f → (c ≡ true) × (u ≡ Ok f)
-cond-ok true u e f q = (refl, q)
-cond-ok false u e f q = let z : ◌≡◌ {A = ℕ} 0 1 = cc in absurd (omega arith)
-
-pub ok_same : (f g : Sound) → ◌≡◌ {A = Result Sound Halt} (Ok f) (Ok g) → f ≡ g
-ok_same f g q = cc
-
--- a redemption that passes read the file that stands, and its number is issued
-pub passed : (k : Kit) (d : ℕ) (root name : List ℕ) (s : Slots) (on : Bool) (b : Book) (ticket : List ℕ) (room marks : ℕ) (f : Sound) → d ≤ 16 →
-    (v : Inv k d root name running s on b) → redeemVerdict k d s on ticket room marks ≡ Ok f → (f.1 ≡ v.links) × (number_in ticket < b.issued)
-passed k d root name s on b ticket room marks f small v q =
-    let n = number_in ticket in
-    let file = reads-back k d root name b.issued b.spent s v.links small v.stands v.named v.counted v.below v.covers in
-    let g : Sound = (headFor k name b.issued (entry v.links 0), v.links) in
-    let seen : read_by k d s on ≡ Ok g =
-    ap (λ (o : Bool). readAs o (fileOf d k.generator k.sealer s)) (v.power refl) ∙ ap (λ (y : File). readAs true y) file in
-    let p1 = cond-ok (leb mostLength room && leb (roomOf (length s)) marks) (cond (countFits d s) (redeemable k ticket (read_by k d s on)) (Err (plainly SlotCount))) (plainly ShortBuffer) f q in
-    let p2 = cond-ok (countFits d s) (redeemable k ticket (read_by k d s on)) (plainly SlotCount) f p1.1 in
-    let p3 : redeemable k ticket (Ok g) ≡ Ok f = ap (redeemable k ticket) (sym seen) ∙ p2.1 in
-    let last : Result Sound Halt = cond (ltb n b.issued) (Ok g) (Err (placed NotIssued n)) in
-    let p4 = cond-ok (leb (ticketLeast k) (length ticket) && leb (length ticket) (ticketLongest k)) (cond (sameBytes (nameIn ticket) name) last (Err (plainly OtherName))) (plainly TicketLength) f p3 in
-    let p5 = cond-ok (sameBytes (nameIn ticket) name) last (plainly OtherName) f p4.1 in
-    let p6 = cond-ok (ltb n b.issued) (Ok g) (placed NotIssued n) f p5.1 in
-    (ap (λ (y : Sound). y.1) (sym (ok_same g f p6.1)), ltb-true n b.issued p6.0)
 
 -- ---- where a puncture takes place, and what it makes of the cover
 pub record PunctureSpot (k : Kit) (d : ℕ) (root name : List ℕ) (s : Slots) (b : Book) (n : ℕ) (front : List Link) (x : Link) (back new : List Link) : Type 0 where
@@ -93,8 +65,8 @@ spot k d root name s on b ticket room marks f front x back plain fs small v hit 
     let ys = siblingsFrom d x.node n in
     let vs = valued (valueFrom g d x.node x.value) ys in
     let new = linksIn fs vs in
-    let p = passed k d root name s on b ticket room marks f small v hit.verdict in
-    let e : v.links ≡ front ++ (x ∷ back) = sym p.0 ∙ hit.chain in
+    let may = redeem-ok k d s on ticket room marks f hit.verdict in
+    let e = hit-chain k d root name s on b small v ticket room marks f front x back hit in
     let c : map valuedOf (front ++ (x ∷ back)) ≡ valuedCover g d root b.spent =
     subst (λ (l : List Link). map valuedOf l ≡ valuedCover g d root b.spent) e v.covers in
     let q : valuedCover g d root b.spent ≡ map valuedOf front ++ ((x.node, x.value) ∷ map valuedOf back) = sym c ∙ valued-of-append front (x ∷ back) in
@@ -115,31 +87,11 @@ spot k d root name s on b ticket room marks f front x back plain fs small v hit 
           ∙ ap (λ (l : List Valued). map valuedOf front ++ l) (valued-of-append new back ∙ ap (λ (l : List Valued). l ++ map valuedOf back) (links-valued fs vs many))
           ∙ sym (punctured-values g d root b.spent n x.node x.value (map valuedOf front) (map valuedOf back) q hit.covers);
       fresh = λ m. cover-free d b.spent x.node i n m hit.covers;
-      issued = p.1;
+      issued = subst (λ (z : Sound). n < z.0.issued) (file-is k d root name s on b small v f may.read) may.issued;
     }
 
 -- ---- what holds, after
 module _ (k : Kit) (d : ℕ) (root name : List ℕ) (s : Slots) (on : Bool) (b : Book) (v : Inv k d root name running s on b) where
-  -- the book as it was
-  same-book : (m : Mode) (t : Slots) (on' : Bool) (xs : List Link) → Stands k d name b.issued t xs → map valuedOf xs ≡ valuedCover k.expansion d root b.spent →
-      (m ≡ running → on' ≡ true) → (m ≡ running → RestBlank t xs) → Inv k d root name m t on' b
-  same-book m t on' xs st c p r = record {
-    links = xs;
-    stands = st;
-    covers = c;
-    counted = v.counted;
-    below = v.below;
-    rooted = v.rooted;
-    named = v.named;
-    power = p;
-    rest = r;
-    once = v.once;
-    opened = v.opened;
-    issued = v.issued;
-    records = v.records;
-    tickets = v.tickets;
-  }
-
   -- the number n spent, and these opened
   more-spent : (n : ℕ) (opened : List ℕ) (m : Mode) (t : Slots) (on' : Bool) (xs : List Link) → n < b.issued →
       Stands k d name b.issued t xs → map valuedOf xs ≡ valuedCover k.expansion d root (n ∷ b.spent) →
@@ -179,10 +131,7 @@ refused : (k : Kit) (d : ℕ) (root name : List ℕ) (s : Slots) (on : Bool) (b 
     Inv k d root name running s on b → r ≡ Err h → Untouched s on room state t on' → joined ≡ false → Kept k d root name b ticket r t on' joined
 refused k d root name s on b ticket room r state t on' joined h v e u j =
     carried k d root name b ticket r (Err h) t s on' on joined false e u.slots u.power j
-    (same-book k d root name s on b v (modeAfter (Err h)) s on v.links v.stands v.covers (λ q. v.power refl) (λ q. v.rest refl))
-
-not-running : cold ≡ running → ⊥
-not-running q = let z : ◌≡◌ {A = ℕ} 0 1 = cc in omega arith
+    (moved k d root name running s on b v (modeAfter (Err h)) s on v.links v.stands v.covers (λ q. v.power refl) (λ q. v.rest refl))
 
 -- one write of two more stands
 take-one : (us : List Write) (v w : Write) (m : ℕ) → m ≡ suc (length us) → take m (us ++ (v ∷ w ∷ [])) ≡ us ++ (v ∷ [])
@@ -213,20 +162,20 @@ cut_short k d root name s on b ticket r t on' joined front x back new m h v p c 
                 (c.slots ∙ ap (λ (z : List Write). stood s z) (take_all m (redeemWrites s front x back new) (omega arith))) o (j ∙ lt-ltb w m l)
                 (more-spent k d root name s on b v n b.opened cold (stood s (redeemWrites s front x back new)) false (front ++ (new ++ back)) p.issued
                 (erases k d name b.issued s front x back new p.stands p.low p.high p.off p.apart) p.after
-                (λ q. absurd (not-running q)) (λ q. absurd (not-running q)) v.once (λ i z. inr (v.opened i z)))
+                (λ q. absurd (cold-not-running q)) (λ q. absurd (cold-not-running q)) v.once (λ i z. inr (v.opened i z)))
             | inr l2 ↦
                 carried k d root name b ticket r (Err hh) t (stood s (ws ++ (y ∷ []))) on' false joined true eh
                 (c.slots ∙ ap (λ (z : List Write). stood s z) (take-one ws y (eraseWrite x) m (omega arith))) o (j ∙ lt-ltb w m l)
                 (more-spent k d root name s on b v n b.opened cold (stood s (ws ++ (y ∷ []))) false (front ++ (new ++ back)) p.issued
                 (joins k d name b.issued s front x back new p.stands p.low p.high p.off p.apart) p.after
-                (λ q. absurd (not-running q)) (λ q. absurd (not-running q)) v.once (λ i z. inr (v.opened i z)))
+                (λ q. absurd (cold-not-running q)) (λ q. absurd (cold-not-running q)) v.once (λ i z. inr (v.opened i z)))
           ]
       | inr l ↦
           carried k d root name b ticket r (Err hh) t (stood s (take m ws)) on' false joined false eh
           (c.slots ∙ ap (λ (z : List Write). stood s z) (take-append-le m ws (y ∷ eraseWrite x ∷ []) (omega arith))) o (j ∙ le-ltb w m l)
-          (same-book k d root name s on b v cold (stood s (take m ws)) false (front ++ (x ∷ back))
+          (moved k d root name running s on b v cold (stood s (take m ws)) false (front ++ (x ∷ back))
           (unjoined k d name b.issued s front x back new p.stands p.low p.high p.off p.apart m) p.covers
-          (λ q. absurd (not-running q)) (λ q. absurd (not-running q)))
+          (λ q. absurd (cold-not-running q)) (λ q. absurd (cold-not-running q)))
     ]
 
 -- all stands: the new chain, with zeros besides, and a number opened that was not spent before

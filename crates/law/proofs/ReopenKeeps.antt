@@ -12,12 +12,12 @@ use Rattle.chain.specs.Reading.{Link, slots_of}
 use Rattle.rules.specs.Kits.{Kit}
 use Rattle.steps.specs.OneStep.{Write}
 use Rattle.steps.specs.Writes.{stood}
-use Rattle.rules.specs.Files.{entry, holds, isBlank, sweepFrom, sweepWrites}
+use Rattle.rules.specs.Files.{holds, isBlank, sweepFrom, sweepWrites}
 use Rattle.rules.specs.Calls.{Sound, Reopening, declined, stopped, faulty, cut, swept}
 use Rattle.rules.specs.Books.{Book}
 use Rattle.rules.specs.Pasts.{running, cold, mode_of}
 use Rattle.law.specs.Law.{RestBlank}
-use Rattle.law.proofs.Invariant.{headFor, Inv}
+use Rattle.law.proofs.Invariant.{fileFor, Inv}
 use Rattle.steps.proofs.Plans.{length-stood, stood-append}
 use Rattle.law.proofs.Frames.{in_take, Unnamed, stood-other, count-least, Aside, aside-take, stands-aside}
 use Rattle.law.proofs.Readings.{cold-not-running, ok_same, inv-read, moved, cooled}
@@ -164,7 +164,7 @@ module _ (k : Kit) (d : ℕ) (root name : List ℕ) (s : Slots) (on : Bool) (b :
     partly : (m : ℕ) (on' : Bool) → Whole s → Inv k d root name cold (stood s (take m (sweepWrites s f.1))) on' b × Whole (stood s (take m (sweepWrites s f.1)))
     partly m on' w =
         let ws = sweepWrites s f.1 in (
-          moved k d root name cold s on b v cold (stood s (take m ws)) on' (stands-aside k d name b.issued v.links s (take m ws) (aside-take v.links m ws aside) v.stands)
+          moved k d root name cold s on b v cold (stood s (take m ws)) on' v.links (stands-aside k d name b.issued v.links s (take m ws) (aside-take v.links m ws aside) v.stands) v.covers
               (λ e. absurd (cold-not-running e)) (λ e. absurd (cold-not-running e)),
           whole-stood (take m ws) s (λ u i. sweep-definite u (in_take u m ws i)) w,
         )
@@ -174,7 +174,7 @@ module _ (k : Kit) (d : ℕ) (root name : List ℕ) (s : Slots) (on : Bool) (b :
     wholly w =
         let ws = sweepWrites s f.1 in
         let n = count-least d s v.stands.fits in (
-          moved k d root name cold s on b v running (stood s ws) true (stands-aside k d name b.issued v.links s ws aside v.stands)
+          moved k d root name cold s on b v running (stood s ws) true v.links (stands-aside k d name b.issued v.links s ws aside v.stands) v.covers
               (λ e. refl) (λ e. subst (λ (ys : List Link). RestBlank (stood s ws) ys) file (sweep-rest s f.1 (omega arith) w)),
           whole-stood ws s sweep-definite w,
         )
@@ -184,12 +184,12 @@ reopen-holds k d root name s on b marks r t on' small w v (declined h e q z p) =
 reopen-holds k d root name s on b marks r t on' small w v (stopped e q z p) = refused k d root name s on b (unpowered 0 Restart) r t on' w v q z
 reopen-holds k d root name s on b marks r t on' small w v (faulty h e a q z p) = refused k d root name s on b h r t on' w v q z
 reopen-holds k d root name s on b marks r t on' small w v (cut f m h e a c q p) =
-    let g : Sound = (headFor k name b.issued (entry v.links 0), v.links) in
+    let g : Sound = fileFor k name b.issued v.links in
     let file : f ≡ g = ok_same f g (sym a ∙ inv-read k d root name cold s on b small v) in
     subst₂ (λ (r : Result (Unit {0}) Halt) (t : Slots). Inv k d root name (mode_of r) t on' b × Whole t) (sym q) (sym c.slots)
     (partly k d root name s on b v f (ap (λ (p : Sound). p.1) file) m on' w)
 reopen-holds k d root name s on b marks r t on' small w v (swept f e a z q p) =
-    let g : Sound = (headFor k name b.issued (entry v.links 0), v.links) in
+    let g : Sound = fileFor k name b.issued v.links in
     let file : f ≡ g = ok_same f g (sym a ∙ inv-read k d root name cold s on b small v) in
     subst₃ (λ (r : Result (Unit {0}) Halt) (t : Slots) (o : Bool). Inv k d root name (mode_of r) t o b × Whole t) (sym q) (sym z) (sym p)
     (wholly k d root name s on b v f (ap (λ (p : Sound). p.1) file) w)

@@ -1,6 +1,5 @@
 -- Each call on a file that stands, not cut, is as its tale says.
-use Rattle.std.proofs.Common.{◌≡◌, ℕ, ◌-◌, ◌^◌, ◌<◌, ◌≤◌, Bool, true, false, cond, ◌&&◌, ltb, leb, ◌≢◌, List, [], ◌∷◌, map, length, take, Ok, Err, Result, sym, refl, ap, ◌∙◌, subst, inl, inr, arith, length-take-le}
-use Rattle.std.proofs.lemmas.List.{length-map}
+use Rattle.std.proofs.Common.{◌≡◌, ℕ, ◌-◌, ◌^◌, ◌<◌, ◌≤◌, Bool, true, false, cond, ◌&&◌, ltb, leb, ◌≢◌, List, [], ◌∷◌, length, take, Ok, Err, Result, sym, refl, ap, ◌∙◌, subst, arith, length-take-le}
 use Rattle.octets.specs.Buffers.{filled}
 use Rattle.refusal.specs.declared.Refusal.{Refusal}
 use Rattle.refusal.specs.declared.Refusal.TheVariants.{NoPower, ShortBuffer, SlotCount, NotARecord, Exhausted, TicketLength, OtherName, NotIssued}
@@ -12,24 +11,23 @@ use Rattle.session.specs.Records.{isRecord}
 use Rattle.tree.specs.declared.Node.{Node}
 use Rattle.tree.specs.Nodes.{Covers}
 use Rattle.tree.specs.Cover.{In, cover}
-use Rattle.tree.specs.Values.{Valued, follow, value_of, key_of, keyFrom, valuedCover}
-use Rattle.tree.proofs.Keys.{in-valued}
-use Rattle.tree.proofs.Members.{in_right}
-use Rattle.chain.specs.Reading.{Link, valuedOf}
+use Rattle.tree.specs.Values.{follow, key_of, keyFrom}
+use Rattle.chain.specs.Reading.{Link}
 use Rattle.marks.specs.Rows.{roomOf}
 use Rattle.rules.specs.Kits.{Kit, Lawful, valueLength, headingLength}
 use Rattle.rules.specs.Tickets.{ticketOf, nameIn, number_in, headingIn, sealedIn, ticketLeast, ticketLongest, ticketMost}
 use Rattle.steps.specs.OneStep.{Write}
 use Rattle.steps.specs.Writes.{CutShort}
-use Rattle.rules.specs.Files.{entry, issueWrite, redeemWrites, freeCount}
+use Rattle.rules.specs.Files.{issueWrite, redeemWrites, freeCount}
 use Rattle.rules.proofs.Counting.{by_levels}
 use Rattle.rules.specs.Calls.{Sound, Outcome, Finished, read_by, countFits, sameBytes, issuable, issueVerdict, issuedTicket, redeemable, redeemVerdict, Hit, Seals, newLinks, Issuing, Redeeming}
 use Rattle.rules.specs.Books.{Book}
 use Rattle.rules.specs.Pasts.{running, cold, isNoPower, modeAfter}
 use Rattle.law.specs.Law.{Uncut}
-use Rattle.law.proofs.Invariant.{headFor, Inv}
+use Rattle.law.proofs.Invariant.{fileFor, Inv}
 use Rattle.steps.proofs.Plans.{length-stood}
-use Rattle.law.proofs.Readings.{inv-read, link-is, key-is, issue-ok, MayRedeem, redeem-ok}
+use Rattle.law.proofs.Links.{link-over, link-count, link-is, key-is}
+use Rattle.law.proofs.Readings.{inv-reads, file-is, hit-in, issue-ok, redeem-ok}
 use Rattle.law.proofs.Told.{Out, Barrier, issueLeft, issueRecord, issueFits, issueBar, IssueTold, redeemIssued, redeemNamed, redeemLong, redeemFits, redeemBar, SealedAs, RoomTold, PlainTold, SealTold, NodeTold, RedeemTold}
 
 -- ---- modes and lengths
@@ -107,23 +105,6 @@ redeem-bar k d s on ticket room marks g e =
     (redeemFits d k.overhead (length s) i name ticket)
     (push (countFits d s) (redeemable k ticket (read_by k d s on)) (plainly SlotCount) (redeemLong k.overhead i name ticket) a)
 
--- ---- the links by their nodes
-of_map : {A B : Type 0} (f : A → B) (y : B) (xs : List A) → In y (map f xs) → (x : A) × In x xs × (y ≡ f x)
-of_map f y [] m = absurd m
-of_map f y (x ∷ xs) (inl e) = (x, inl refl, e)
-of_map f y (x ∷ xs) (inr m) = let a = of_map f y xs m in (a.0, inr a.1, a.2)
-
-module _ (k : Kit) (d : ℕ) (root : List ℕ) (spent : List ℕ) (xs : List Link) (covers : map valuedOf xs ≡ valuedCover k.expansion d root spent) where
-  pub link-of : (x : Node) → In x (cover d spent) → (y : Link) × In y xs × (x ≡ y.node)
-  link-of x i =
-      let f = value_of k.expansion d root in
-      let j : In (x, f x) (map valuedOf xs) = subst (λ (ys : List Valued). In (x, f x) ys) (sym covers) (in-valued f (cover d spent) x i) in
-      let a = of_map valuedOf (x, f x) xs j in
-      (a.0, a.1, ap (λ (p : Valued). p.0) a.2)
-
-  pub link-count : length xs ≡ length (cover d spent)
-  link-count = sym (length-map xs valuedOf) ∙ (ap length covers ∙ length-map (cover d spent) (λ (x : Node). (x, value_of k.expansion d root x)))
-
 -- ---- the tales
 -- of an issue and of a redemption at a server, by its book and the number of its slots
 abbrev pub IssueTale : Kit → ℕ → List ℕ → List ℕ → Slots → Book → List ℕ → ℕ → ℕ → Outcome → List ℕ → Bool → Type 0
@@ -137,10 +118,13 @@ RedeemTale k d root name s b ticket room marks r u j =
 
 module _ (k : Kit) (d : ℕ) (root name : List ℕ) (s : Slots) (on : Bool) (b : Book) (small : d ≤ 16) (v : Inv k d root name running s on b) where
   abbrev file : Sound
-  file = (headFor k name b.issued (entry v.links 0), v.links)
+  file = fileFor k name b.issued v.links
 
   read : read_by k d s on ≡ Ok file
-  read = subst (λ (o : Bool). read_by k d s o ≡ Ok file) (sym (v.power refl)) (inv-read k d root name running s on b small v)
+  read = inv-reads k d root name s on b small v
+
+  is-file : (f : Sound) → read_by k d s on ≡ Ok f → f ≡ file
+  is-file = file-is k d root name s on b small v
 
   module _ (plain : List ℕ) (room marks : ℕ) where
     given-told : (f : Sound) (x : Link) (r : Outcome) (ticket : List ℕ) (headed : Bool) → issueVerdict k d s on plain room marks ≡ Ok f → In x f.1 → Covers d x.node f.0.issued →
@@ -148,11 +132,11 @@ module _ (k : Kit) (d : ℕ) (root name : List ℕ) (s : Slots) (on : Bool) (b :
         IssueTale k d root name s b plain room marks r ticket headed
     given-told f x r ticket headed verdict i c e q l =
         let own = ticketOf k name b.issued (key_of k.expansion d root b.issued) plain in
-        let may = issue-ok k d s on plain room marks f file read verdict in
-        let j : In x v.links = subst (λ (p : Sound). In x p.1) may.file i in
-        let n : Covers d x.node b.issued = subst (λ (p : Sound). Covers d x.node p.0.issued) may.file c in
+        let same : f ≡ file = is-file f (issue-ok k d s on plain room marks f verdict).read in
+        let j : In x v.links = subst (λ (p : Sound). In x p.1) same i in
+        let n : Covers d x.node b.issued = subst (λ (p : Sound). Covers d x.node p.0.issued) same c in
         let w : issuedTicket k d f.0 x plain ≡ own =
-        ap (λ (p : Sound). issuedTicket k d p.0 x plain) may.file
+        ap (λ (p : Sound). issuedTicket k d p.0 x plain) same
         ∙ ap (λ (z : List ℕ). ticketOf k name b.issued z plain) (key-is k d root b.spent v.links v.covers x b.issued j n) in
         let o : Out r ticket headed (Ok (length own, d - x.node.depth)) (filled own room) true = record {
           outcome = by_levels e ∙ ap (λ (z : List ℕ). Ok (length z, d - x.node.depth)) w;
@@ -169,27 +153,25 @@ module _ (k : Kit) (d : ℕ) (root name : List ℕ) (s : Slots) (on : Bool) (b :
     issue-told r ticket t on' headed u (Issuing.given f x verdict i c e q z p l) = given-told f x r ticket headed verdict i c e q l
 
   module _ (ticket : List ℕ) (room marks : ℕ) where
-    may-redeem : (f : Sound) → redeemVerdict k d s on ticket room marks ≡ Ok f → MayRedeem k file f ticket
-    may-redeem f verdict = redeem-ok k d s on ticket room marks f file read verdict
+    same-file : (f : Sound) → redeemVerdict k d s on ticket room marks ≡ Ok f → f ≡ file
+    same-file f verdict = is-file f (redeem-ok k d s on ticket room marks f verdict).read
 
     -- what a node's tale says, once nothing stops the redemption
     goes_on : (f : Sound) (r : Outcome) (u : List ℕ) (j : Bool) → redeemVerdict k d s on ticket room marks ≡ Ok f →
         NodeTold d (number_in ticket) (length s - 1 - length (cover d b.spent)) room k.sealing (key_of k.expansion d root (number_in ticket)) (headingIn ticket) (sealedIn ticket) (cover d b.spent) r u j →
         RedeemTale k d root name s b ticket room marks r u j
     goes_on f r u j verdict t =
-        let least = (may-redeem f verdict).least in
+        let least = (redeem-ok k d s on ticket room marks f verdict).least in
         let h : headingLength ≤ length ticket = omega arith in
         RedeemTold.passed (sym (redeem-bar k d s on ticket room marks file read) ∙ ap unfiled verdict) (length-take-le headingLength ticket h) t
 
     module _ (f : Sound) (front : List Link) (x : Link) (back : List Link) (hit : Hit k d s on ticket room marks f front x back) where
       on_chain : In x v.links
-      on_chain =
-          subst (λ (p : Sound). In x p.1) (may-redeem f hit.verdict).file
-          (subst (λ (ys : List Link). In x ys) (sym hit.chain) (in_right x front (x ∷ back) (inl refl)))
+      on_chain = hit-in k d root name s on b small v ticket room marks f front x back hit
 
       free-is : freeCount s f.1 ≡ length s - 1 - length (cover d b.spent)
       free-is =
-          ap (λ (p : Sound). freeCount s p.1) (may-redeem f hit.verdict).file
+          ap (λ (p : Sound). freeCount s p.1) (same-file f hit.verdict)
           ∙ ap (λ (c : ℕ). length s - 1 - c) (link-count k d root b.spent v.links v.covers)
 
       key-of : keyFrom k.expansion d x.node x.value (number_in ticket) ≡ key_of k.expansion d root (number_in ticket)
@@ -209,8 +191,8 @@ module _ (k : Kit) (d : ℕ) (root name : List ℕ) (s : Slots) (on : Bool) (b :
     no_node : (f : Sound) → redeemVerdict k d s on ticket room marks ≡ Ok f → ((x : Link) → In x f.1 → Covers d x.node (number_in ticket) → ⊥) →
         (x : Node) → In x (cover d b.spent) → Covers d x (number_in ticket) → ⊥
     no_node f verdict none x i c =
-        let l = link-of k d root b.spent v.links v.covers x i in
-        none l.0 (subst (λ (p : Sound). In l.0 p.1) (sym (may-redeem f verdict).file) l.1) (subst (λ (y : Node). Covers d y (number_in ticket)) l.2 c)
+        let l = link-over k d root b.spent v.links v.covers x i in
+        none l.0 (subst (λ (p : Sound). In l.0 p.1) (sym (same-file f verdict)) l.1) (subst (λ (y : Node). Covers d y (number_in ticket)) (sym l.2) c)
 
     pub redeem-told : (r : Outcome) (state : List ℕ) (t : Slots) (on' joined : Bool) → Uncut r → Redeeming k d s on ticket room marks r state t on' joined →
         RedeemTale k d root name s b ticket room marks r state joined
