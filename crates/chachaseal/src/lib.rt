@@ -1,25 +1,39 @@
 //! Sealer 1: ChaCha20 over the plain, and half of an HMAC-SHA-256 as the tag.
+#![tactic(auto)]
+
+ghost use Rattle.std.specs.Prelude.{◌≡◌, take};
+ghost use Rattle.octets.specs.Buffers.{filled};
 ghost use Rattle.chachaseal.specs.Meaning.{streamBlock, tag_of, sealedBytes};
-ghost use Rattle.chachaseal.specs.Tags.{tag-long};
+ghost use Rattle.chachaseal.specs.Lengths.{stream-long, tag-long};
 ghost use Rattle.std.proofs.Common.{rules};
 ghost use Rattle.sealing.proofs.Covers.{sealing-long};
 ghost use Rattle.sealing.proofs.Covers;
 
-use octets::Wiped;
 use hmac::Hmac;
+use octets::{Wiped, clear};
 use refusal::Refusal;
 use sealer::Sealer;
 use sealing::Scheme;
 
-/// The bytes of a keystream block.
+// The number by which trees name this sealer.
+const NUMBER: u8 = 1;
+
+// The bytes of a keystream block.
 const BLOCK_SIZE: usize = 64;
 
-/// The bytes of a tag.
+// The bytes of a tag.
 const TAG_SIZE: usize = 16;
 
-/// The sealer that trees name by the number 1.
+/// Sealer 1.
 #[derive(Clone, Copy)]
 pub struct ChaChaSealer;
+
+// Keeps the bytes of a tag at the start of a row, and puts zeros after them.
+fn keep_tag(out: &mut [u8; 32])
+    ensures { out.new ≡ filled (take 16 out.old) 32 }
+{
+    clear(&mut out[TAG_SIZE..]);
+}
 
 impl Scheme for ChaChaSealer {
     ghost block = { λ _ key i. streamBlock key i };
@@ -36,6 +50,8 @@ impl Scheme for ChaChaSealer {
 
     ghost limited = { Prim.search rules };
 
+    ghost whole = { λ s key index. stream-long key index };
+
     ghost tagged = { λ s key heading bytes. tag-long key heading bytes };
 
     fn size(&self) -> usize {
@@ -46,10 +62,12 @@ impl Scheme for ChaChaSealer {
         TAG_SIZE
     }
 
-    fn block(&self, key: &[u8; 32], index: u32, pad: &mut [u8; 64]) {
-        chacha::block(key, 1 + index, &[0; 12], pad);
+    #[tactic(auto, using(session::proofs::Rows::filled_whole), unfolding(crate::specs::Meaning::streamBlock))]
+    fn block(&self, key: &[u8; 32], index: u16, pad: &mut [u8; 64]) {
+        chacha::block(key, 1 + u32::from(index), &[0; 12], pad);
     }
 
+    #[tactic(auto, unfolding(crate::specs::Meaning::tag_of))]
     fn tag(
         &self,
         key: &[u8; 32],
@@ -62,6 +80,7 @@ impl Scheme for ChaChaSealer {
         mac.update(heading);
         mac.update(bytes);
         mac.finish(out);
+        keep_tag(out);
     }
 }
 
@@ -81,7 +100,7 @@ impl Sealer for ChaChaSealer {
     ghost apart = { λ s key heading plain other k h p q same. Covers.apart (streamBlock key) 64 (tag_of key heading) 16 (tag-long key heading) plain other same };
 
     fn number(&self) -> u8 {
-        1
+        NUMBER
     }
 
     fn overhead(&self) -> usize {

@@ -1,4 +1,6 @@
 //! The ciphers and sealers under names that C can call, for the benchmark. A slice is a pointer and then a length.
+#![tactic(auto)]
+
 ghost use Rattle.std.specs.Prelude.{◌≡◌, ◌+◌, length};
 ghost use Rattle.octets.specs.Buffers.{zeros, filled};
 ghost use Rattle.chacha.specs.Cipher.{block_of};

@@ -1,33 +1,48 @@
 //! Sealer 2: a keystream of HMAC-SHA-256 over the plain, and a whole HMAC-SHA-256 as the tag.
 //!
 //! One byte before what is hashed tells the two uses of the key apart.
+#![tactic(auto)]
+
+ghost use Rattle.std.specs.Prelude.{◌≡◌};
+ghost use Rattle.octets.specs.Fields.{bytes_of};
 ghost use Rattle.hmacseal.specs.Meaning.{streamBlock, tag_of, sealedBytes};
-ghost use Rattle.hmacseal.specs.Tags.{tag-long};
+ghost use Rattle.hmacseal.specs.Lengths.{stream-long, tag-long};
 ghost use Rattle.std.proofs.Common.{rules};
 ghost use Rattle.sealing.proofs.Covers.{sealing-long};
 ghost use Rattle.sealing.proofs.Covers;
 
-use octets::Wiped;
 use hmac::Hmac;
+use octets::Wiped;
 use refusal::Refusal;
 use sealer::Sealer;
 use sealing::Scheme;
 
-/// The bytes of a keystream block, which is a whole MAC.
+// The number by which trees name this sealer.
+const NUMBER: u8 = 2;
+
+// The bytes of a keystream block, which is a whole MAC.
 const BLOCK_SIZE: usize = 32;
 
-/// The bytes of a tag, which is a whole MAC.
+// The bytes of a tag, which is a whole MAC.
 const TAG_SIZE: usize = 32;
 
-/// The byte before a block's place, where the MAC is a keystream block.
+// The byte before a block's place, where the MAC is a keystream block.
 const STREAM: u8 = 0x01;
 
-/// The byte before the heading, where the MAC is a tag.
+// The byte before the heading, where the MAC is a tag.
 const TAG: u8 = 0x02;
 
-/// The sealer that trees name by the number 2.
+/// Sealer 2.
 #[derive(Clone, Copy)]
 pub struct HmacSealer;
+
+// The four bytes of a block's place.
+#[tactic(auto, using(octets::proofs::Fielded::bytes4))]
+fn place(index: u16) -> [u8; 4]
+    ensures { result ≡ bytes_of 4 index }
+{
+    u32::from(index).to_be_bytes()
+}
 
 impl Scheme for HmacSealer {
     ghost block = { λ _ key i. streamBlock key i };
@@ -44,6 +59,8 @@ impl Scheme for HmacSealer {
 
     ghost limited = { Prim.search rules };
 
+    ghost whole = { λ s key index. stream-long key index };
+
     ghost tagged = { λ s key heading bytes. tag-long key heading bytes };
 
     fn size(&self) -> usize {
@@ -54,13 +71,15 @@ impl Scheme for HmacSealer {
         TAG_SIZE
     }
 
-    fn block(&self, key: &[u8; 32], index: u32, pad: &mut [u8; 64]) {
+    #[tactic(auto, using(crate::proofs::Macs::mac_filled), unfolding(crate::specs::Meaning::streamBlock))]
+    fn block(&self, key: &[u8; 32], index: u16, pad: &mut [u8; 64]) {
         let mut mac = Hmac::new(key, pad);
         mac.update(&[STREAM]);
-        mac.update(&index.to_be_bytes());
+        mac.update(&place(index));
         mac.finish_block(pad);
     }
 
+    #[tactic(auto, unfolding(crate::specs::Meaning::tag_of))]
     fn tag(
         &self,
         key: &[u8; 32],
@@ -93,7 +112,7 @@ impl Sealer for HmacSealer {
     ghost apart = { λ s key heading plain other k h p q same. Covers.apart (streamBlock key) 32 (tag_of key heading) 32 (tag-long key heading) plain other same };
 
     fn number(&self) -> u8 {
-        2
+        NUMBER
     }
 
     fn overhead(&self) -> usize {

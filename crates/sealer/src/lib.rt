@@ -1,7 +1,9 @@
 //! What a sealer is: it turns a plain into sealed bytes under a key and a heading, and back.
 //!
-//! Under a key of 32 bytes and a heading of 20, each plain up to the length of the longest session record has one row of
-//! sealed bytes, its sealing. What sealing and opening leave behind stands in specs/Outcomes.antt.
+//! A sealer means, for a key of 32 bytes and a heading of 20, a sealing of each plain that is not longer than the
+//! longest session record. What sealing and opening leave behind stands in specs/Outcomes.antt.
+#![tactic(auto)]
+
 ghost use Rattle.std.specs.Prelude.{◌≡◌, ℕ, ◌+◌, ◌<◌, ◌≤◌, List, length};
 ghost use Rattle.octets.specs.Buffers.{zeros};
 ghost use Rattle.sealer.specs.Limits.{plainLimit, overheadLimit};
@@ -70,7 +72,16 @@ pub trait Sealer {
     ghost apart: { (s : Self) (key heading plain other : List ℕ) → length key ≡ 32 → length heading ≡ 20 → length plain ≤ plainLimit → length other ≤ plainLimit → sealing s key heading plain ≡ sealing s key heading other → plain ≡ other };
 }
 
+/// The limits of plains and of overheads.
+pub fn limits_stand() -> u8
+    ensures plain { PLAIN_LIMIT ≡ plainLimit }
+    ensures overhead { OVERHEAD_LIMIT ≡ overheadLimit }
+{
+    0
+}
+
 /// Writes the heading of a ticket: the key's name, and the ticket's number.
+#[tactic(auto, using(crate::proofs::Parts::number_after_name))]
 pub fn heading(name: &[u8; 16], number: u32, out: &mut [u8; 20])
     ensures { out.new ≡ headingOf name.now number }
 {

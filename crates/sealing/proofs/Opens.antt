@@ -1,13 +1,17 @@
 -- Which sealed bytes have a plain, and what the buffers hold.
 use Rattle.std.proofs.Common.{◌≡◌, ℕ, ◌+◌, ◌-◌, ◌<◌, ◌≤◌, List, ◌++◌, length, take, drop, sym, ap, ◌∙◌, arith}
 use lib.Seq.{paste}
-use Rattle.std.proofs.lemmas.List.{length-take-le, take-append-drop, drop-replicate}
+use Rattle.std.proofs.lemmas.List.{length-take-le, take_at, take-append-drop, drop-replicate}
 use Rattle.octets.specs.Buffers.{zeros, filled}
 use Rattle.session.proofs.Rows.{filled_next}
 use Rattle.sealer.specs.Limits.{plainLimit}
 use Rattle.sealer.specs.Outcomes.{PlainOf, NoPlain}
 use Rattle.sealing.specs.Covering.{covered, sealingOf}
 use Rattle.sealing.proofs.Covers.{covered-long, twice, sealing-long, sealing-parts}
+
+-- what a filled buffer begins with
+pub filled-front : (xs : List ℕ) (room n : ℕ) → length xs ≡ n → take n (filled xs room) ≡ xs
+filled-front xs room n e = take_at xs (zeros (room - length xs)) n e
 
 -- a covered plain at the start of a cleared buffer
 pub covered-zeros : (block : ℕ → List ℕ) (size : ℕ) (plain was : List ℕ) (room : ℕ) → was ≡ zeros room → covered block size plain ++ drop (length plain) was ≡ filled (covered block size plain) room

@@ -2,7 +2,10 @@
 //!
 //! The plain is covered by the keystream, byte by byte, and a tag of the heading and the covered plain follows it.
 //! A scheme says which keystream and which tag. Sealing and opening, and their laws, stand here once for every scheme.
-ghost use Rattle.std.specs.Prelude.{◌≡◌, ℕ, ◌+◌, ◌<◌, ◌≤◌, List, ◌++◌, length, take, drop};
+#![tactic(auto)]
+
+ghost use Rattle.std.specs.Prelude.{◌≡◌, ℕ, ◌+◌, ◌<◌, ◌≤◌, List, ◌++◌, length, drop};
+ghost use Rattle.octets.specs.Buffers.{zeros, filled};
 ghost use Rattle.sealer.specs.Limits.{plainLimit, overheadLimit};
 ghost use Rattle.sealer.specs.Outcomes.{Sealed, Opened};
 ghost use Rattle.sealing.specs.Covering.{Laid, covered, sealingOf};
@@ -34,12 +37,12 @@ pub trait Scheme {
     fn extra(&self) -> usize
         ensures { result ≡ extra self.now };
 
-    /// Writes a block of the keystream to the start of the pad. A plain takes no more blocks than it has bytes.
-    fn block(&self, key: &[u8; 32], index: u32, pad: &mut [u8; 64])
-        requires { index < plainLimit }
-        ensures { take (size self.now) pad.new ≡ block self.now key.now index };
+    /// Writes a block of the keystream to the start of the pad, with zeros after it.
+    fn block(&self, key: &[u8; 32], index: u16, pad: &mut [u8; 64])
+        ensures { pad.new ≡ filled (block self.now key.now index) 64 };
 
-    /// Writes the tag of a heading and a covered plain to the start of a row.
+    /// Writes the tag of a heading and a covered plain to the start of a row, with zeros after it. The pad holds zeros
+    /// afterwards.
     fn tag(
         &self,
         key: &[u8; 32],
@@ -48,7 +51,8 @@ pub trait Scheme {
         out: &mut [u8; 32],
         pad: &mut [u8; 64],
     )
-        ensures { take (extra self.now) out.new ≡ tag self.now key.now heading.now bytes.now };
+        ensures tagged { out.new ≡ filled (tag self.now key.now heading.now bytes.now) 32 }
+        ensures wiped { pad.new ≡ zeros 64 };
 
     ghost some: { (s : Self) → 0 < size s };
 
@@ -56,10 +60,12 @@ pub trait Scheme {
 
     ghost limited: { (s : Self) → extra s ≤ overheadLimit };
 
+    ghost whole: { (s : Self) (key : List ℕ) (index : ℕ) → length (block s key index) ≡ size s };
+
     ghost tagged: { (s : Self) (key heading bytes : List ℕ) → length (tag s key heading bytes) ≡ extra s };
 }
 
-/// Writes the XOR of the plain's bytes from a place on, as many as a block has, and the block's.
+// Writes the XOR of the plain's bytes from a place on, as many as a block has, and the block's.
 fn lay(plain: &[u8], block: &[u8; 64], size: usize, out: &mut [u8], at: usize)
     requires { (length plain.now ≤ length out.old) × ((at < length plain.now) × (size ≤ 64)) }
     ensures { Laid plain.now block.now size at out.old out.new }
@@ -74,7 +80,7 @@ fn lay(plain: &[u8], block: &[u8; 64], size: usize, out: &mut [u8], at: usize)
     }
 }
 
-/// Writes the covered plain to the buffer's start. The pad is left with a block of the keystream.
+// Writes the covered plain to the buffer's start. The pad is left with a block of the keystream.
 fn cover<S: Scheme>(scheme: &S, key: &[u8; 32], plain: &[u8], out: &mut [u8], pad: &mut [u8; 64])
     requires { (length plain.now ≤ plainLimit) × (length plain.now ≤ length out.old) }
     ensures { out.new ≡ covered (S.Scheme.block scheme.now key.now) (S.Scheme.size scheme.now) plain.now ++ drop (length plain.now) out.old }
@@ -90,7 +96,16 @@ fn cover<S: Scheme>(scheme: &S, key: &[u8; 32], plain: &[u8], out: &mut [u8], pa
     }
 }
 
-/// Seals a plain by a scheme. The pad may be left with key material: the caller guards it.
+// Puts zeros into both lent buffers.
+fn clear_both(out: &mut [u8], pad: &mut [u8; 64])
+    ensures out { out.new ≡ zeros (length out.old) }
+    ensures pad { pad.new ≡ zeros 64 }
+{
+    clear(out);
+    *pad = [0; 64];
+}
+
+/// Seals a plain by a scheme. The pad holds zeros afterwards, also where the plain is declined.
 pub fn seal<S: Scheme>(
     scheme: &S,
     key: &[u8; 32],
@@ -99,9 +114,10 @@ pub fn seal<S: Scheme>(
     out: &mut [u8],
     pad: &mut [u8; 64],
 ) -> Result<usize, Refusal>
-    ensures { Sealed (sealingOf (S.Scheme.block scheme.now key.now) (S.Scheme.size scheme.now) (S.Scheme.tag scheme.now key.now heading.now)) (S.Scheme.extra scheme.now) plain.now (length out.old) result out.new }
+    ensures sealed { Sealed (sealingOf (S.Scheme.block scheme.now key.now) (S.Scheme.size scheme.now) (S.Scheme.tag scheme.now key.now heading.now)) (S.Scheme.extra scheme.now) plain.now (length out.old) result out.new }
+    ensures wiped { pad.new ≡ zeros 64 }
 {
-    clear(out);
+    clear_both(out, pad);
     let n = plain.len();
     let extra = scheme.extra();
     if n > PLAIN_LIMIT || out.len() < n + extra {
@@ -114,7 +130,7 @@ pub fn seal<S: Scheme>(
     Ok(n + extra)
 }
 
-/// Opens a sealing by a scheme. The pad may be left with key material: the caller guards it.
+/// Opens a sealing by a scheme. The pad holds zeros afterwards, whatever is answered.
 pub fn open<S: Scheme>(
     scheme: &S,
     key: &[u8; 32],
@@ -123,9 +139,10 @@ pub fn open<S: Scheme>(
     out: &mut [u8],
     pad: &mut [u8; 64],
 ) -> Result<Option<usize>, Refusal>
-    ensures { Opened (sealingOf (S.Scheme.block scheme.now key.now) (S.Scheme.size scheme.now) (S.Scheme.tag scheme.now key.now heading.now)) sealed.now (length out.old) result out.new }
+    ensures opened { Opened (sealingOf (S.Scheme.block scheme.now key.now) (S.Scheme.size scheme.now) (S.Scheme.tag scheme.now key.now heading.now)) sealed.now (length out.old) result out.new }
+    ensures wiped { pad.new ≡ zeros 64 }
 {
-    clear(out);
+    clear_both(out, pad);
     if out.len() < PLAIN_LIMIT {
         return Err(Refusal::ShortBuffer);
     }
@@ -140,6 +157,7 @@ pub fn open<S: Scheme>(
         return Ok(None);
     }
     cover(scheme, key, &sealed[0..n], out, pad);
+    clear(pad);
     Ok(Some(n))
 }
 

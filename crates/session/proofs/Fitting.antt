@@ -1,6 +1,7 @@
 -- The test of a state's fields, and the limit of its lifetime by example.
-use Rattle.std.proofs.Common.{◌≡◌, ℕ, ◌-◌, ◌^◌, ◌<◌, ◌≤◌, true, false, ltb, List, length, drop, is_ok, Some, None, Err, Decides, Option, refl, ap, ◌∙◌, arith}
+use Rattle.std.proofs.Common.{◌≡◌, ℕ, ◌-◌, ◌^◌, ◌<◌, ◌≤◌, Bool, true, false, ltb, List, length, drop, is_ok, Some, None, Err, Decides, Option, refl, ap, ◌∙◌, arith}
 use Rattle.std.proofs.lemmas.List.{length-drop}
+use Rattle.std.proofs.lemmas.Bool.Decides.{Decides-at}
 use Rattle.std.proofs.lemmas.Bool.{and_parts, and_from, leb-true, le-leb, le-ltb}
 use Rattle.refusal.specs.declared.Refusal.TheVariants.{NotARecord}
 use Rattle.octets.specs.Buffers.{zeros}
@@ -31,6 +32,10 @@ fields_fit s n =
           and_from _ _ (and_from _ _ (le-leb _ _ f.lived) (le-leb _ _ f.expires))
           (and_from _ _ (le-leb _ _ f.named) (ap blank f.after ∙ zeros-blank (nameLimit - s.name_length))),
     )
+
+-- the same of what was found to be the test's answer
+pub fitting : (r : Bool) (s : SessionState) → length s.name ≡ nameLimit → r ≡ fieldsFit s → Decides r (Fits s)
+fitting r s n is = Decides-at _ _ is (fields_fit s n)
 
 pub laws : RecordLaws
 laws = record { back = back; forth = forth; tells = tells; read = read-test; long = record-long; least = least; most = most }

@@ -3,7 +3,7 @@ use Rattle.std.proofs.Common.{◌≡◌, ℕ, zero, suc, ◌+◌, ◌-◌, ◌^�
 use lib.Seq.{paste}
 use Rattle.std.proofs.lemmas.Int.Digits.{number_lt}
 use Rattle.std.proofs.ByRecursion.{All-from_get_or}
-use Rattle.std.proofs.lemmas.List.{append_assoc, length-append, length-replicate, set_split, take_at, take_all, drop_at, drop-drop, drop-replicate, take-append-drop, get_or-take, get_or-drop, get_or_past, length-take}
+use Rattle.std.proofs.lemmas.List.{append-nil, append_assoc, length-append, length-replicate, set_split, take_at, take_all, drop_at, drop-drop, drop-replicate, take-append-drop, get_or-take, get_or-drop, get_or_past, length-take}
 use Rattle.std.proofs.lemmas.Bool.{cases_lt, and_parts, eqb-true}
 use Rattle.octets.specs.Buffers.{zeros, filled}
 use Rattle.octets.specs.Fields.{number_of}
@@ -41,6 +41,12 @@ length-filled p n h = length-append p (zeros (n - length p)) ∙ omega (arith, l
 
 pub filled_none : (n : ℕ) → zeros n ≡ filled [] n
 filled_none n = let e : n ≡ n - 0 = omega arith in ap (λ (m : ℕ). zeros m) e
+
+-- a buffer that is filled to its end
+pub filled_whole : (xs : List ℕ) (n : ℕ) → length xs ≡ n → filled xs n ≡ xs
+filled_whole xs n e =
+    let none : n - length xs ≡ 0 = omega (arith, e) in
+    rw none (append-nil xs)
 
 -- one more part after those that fill a buffer so far
 pub filled_next : (p s : List ℕ) (n at m : ℕ) → length p ≡ at → length s ≡ m → at + m ≤ n → paste (filled p n) at s m ≡ filled (p ++ s) n

@@ -102,9 +102,13 @@ read_back s t f =
     let p = parts s t in
     rw (p.issued, p.lifetime, p.age, p.early, p.secret, p.count, p.name, name_back s t f)
 
+-- a record is laid out as one of its state's suite
+pub suited : (s : SessionState) → Typed s → Fits s → recordSuite (encodeOf s) ≡ Some s.suite
+suited s t f = laid-suite (encodeOf s) s.suite (state-laid s t f)
+
 pub back : (s : SessionState) → Typed s → Fits s → decodeOf (encodeOf s) ≡ Ok s
 unfolding decodeOf
-back s t f = rw (laid-suite (encodeOf s) s.suite (state-laid s t f), read_back s t f)
+back s t f = rw (suited s t f, read_back s t f)
 
 module _ (b : List ℕ) (t : Suite) (small : Bytes b) (l : Laid t b) where
   cut : (k m : ℕ) → k + m ≤ leastLength → (length (take m (drop k b)) ≡ m) × Bytes (take m (drop k b))

@@ -1,5 +1,5 @@
 -- A record that is written part by part into a cleared buffer.
-use Rattle.std.proofs.Common.{◌≡◌, ℕ, ◌+◌, ◌-◌, ◌≤◌, true, false, ltb, List, [], ◌∷◌, ◌++◌, length, take, set, Ok, Err, Result, sym, refl, ap, ◌∙◌, arith}
+use Rattle.std.proofs.Common.{◌≡◌, ℕ, ◌+◌, ◌-◌, ◌≤◌, true, false, ltb, List, [], ◌∷◌, ◌++◌, length, take, set, Ok, Result, sym, refl, ap, ◌∙◌, arith}
 use lib.Seq.{paste}
 use Rattle.std.proofs.lemmas.List.{append_assoc, length-append, length-take-le, take_at}
 use Rattle.std.proofs.lemmas.Bool.{le-ltb}
@@ -7,7 +7,6 @@ use Rattle.octets.specs.Buffers.{zeros, filled}
 use Rattle.octets.specs.Fields.{bytes_of}
 use Rattle.octets.proofs.Fielded.{length-bytes}
 use Rattle.refusal.specs.declared.Refusal.{Refusal}
-use Rattle.refusal.specs.declared.Refusal.TheVariants.{ShortBuffer, NotARecord}
 use Rattle.session.specs.declared.SessionState.{SessionState}
 use Rattle.session.specs.Limits.{name_at, secretAt, mostLength}
 use Rattle.session.specs.Suites.{suiteNumber}
@@ -74,12 +73,3 @@ module _ (s : SessionState) (n : ℕ) (t : Typed s) (f : Fits s) (room : mostLen
       ap (λ (x : List ℕ). decodeOf (take k x)) is
       ∙ ap decodeOf (take_at (encodeOf s) (zeros (n - length (encodeOf s))) k (record-long s t f ∙ sym e))
       ∙ back s t f
-
--- a buffer that is too short, and fields that make no record
-pub too_short : (s : SessionState) (n : ℕ) (o : List ℕ) → ltb n mostLength ≡ true → o ≡ zeros n → (◌≡◌ {A = Result ℕ Refusal} (Err ShortBuffer) (written_of s n)) × (o ≡ bufferOf s n)
-unfolding bufferOf written_of
-too_short s n o short is = (rw short, rw short is)
-
-pub no_record : (s : SessionState) (n : ℕ) (o : List ℕ) → ltb n mostLength ≡ false → fieldsFit s ≡ false → o ≡ zeros n → (◌≡◌ {A = Result ℕ Refusal} (Err NotARecord) (written_of s n)) × (o ≡ bufferOf s n)
-unfolding bufferOf written_of
-no_record s n o long fit is = (rw (long, fit), rw (long, fit) is)

@@ -2,9 +2,11 @@
 //!
 //! A record is the suite (2 bytes), the time of issue (8), the lifetime (4), the age add (4), the early data
 //! limit (4), the secret, the name's length (1) and the name, with nothing after it. Numbers are big-endian.
+#![tactic(auto)]
+
 ghost use Rattle.std.specs.Prelude.{◌≡◌, ◌+◌, ◌≤◌, length, take, IfOk, Some, Ok, Decides};
 ghost use Rattle.std.proofs.Math.Seq.{paste};
-ghost use Rattle.session.specs.Limits.{secretLength, leastLength};
+ghost use Rattle.session.specs.Limits.{secretLimit, secretLength, nameLimit, lifetimeLimit, leastLength, mostLength};
 ghost use Rattle.session.specs.Suites.{suiteNumber, suiteOf};
 ghost use Rattle.session.specs.Records.{lifetimeFits, blank, fieldsFit, Fits, Typed, encodeOf, laidOut, recordSuite, isRecord, IsRecord, read_of, decodeOf, written_of, bufferOf};
 ghost use Rattle.session.specs.Laws.{RecordLaws, LifetimeExamples};
@@ -21,7 +23,7 @@ pub const NAME_LIMIT: usize = 32;
 /// The longest lifetime in seconds: seven days.
 pub const LIFETIME_LIMIT: u32 = 604_800;
 
-/// Where the secret begins in a record.
+// Where the secret begins in a record.
 const SECRET_AT: usize = 22;
 
 /// The bytes of the shortest record.
@@ -88,14 +90,14 @@ pub struct SessionState {
     pub name_length: u8,
 }
 
-/// Whether a lifetime is one that a record may hold.
+// Whether a lifetime is one that a record may hold.
 fn lifetime_fits(seconds: u32) -> bool
     ensures { result ≡ lifetimeFits seconds }
 {
     1 <= seconds && seconds <= LIFETIME_LIMIT
 }
 
-/// Whether every byte is zero.
+// Whether every byte is zero.
 fn is_blank(part: &[u8]) -> bool
     ensures { result ≡ blank part.now }
 {
@@ -107,7 +109,7 @@ fn is_blank(part: &[u8]) -> bool
     true
 }
 
-/// Copies a part into a row at a place.
+// Copies a part into a row at a place.
 fn put_part(row: &mut [u8], at: usize, part: &[u8])
     requires { at + length part.now ≤ length row.old }
     ensures { row.new ≡ paste row.old at part.now (length part.now) }
@@ -115,7 +117,8 @@ fn put_part(row: &mut [u8], at: usize, part: &[u8])
     row[at..at + part.len()].copy_from_slice(part);
 }
 
-/// Whether bytes of at least the shortest record's length are laid out as a record of the suite.
+// Whether bytes of at least the shortest record's length are laid out as a record of the suite.
+#[tactic(auto, unfolding(crate::specs::Records::laidOut))]
 fn is_laid_out(suite: Suite, bytes: &[u8]) -> bool
     requires { leastLength ≤ length bytes.now }
     ensures { result ≡ laidOut suite bytes.now }
@@ -131,7 +134,8 @@ fn is_laid_out(suite: Suite, bytes: &[u8]) -> bool
     bytes.len() == name_at + 1 + name_length
 }
 
-/// The suite of a record; none where the bytes are no record.
+// The suite of a record; none where the bytes are no record.
+#[tactic(auto, unfolding(crate::specs::Records::recordSuite))]
 fn record_suite(bytes: &[u8]) -> Option<Suite>
     ensures { result ≡ recordSuite bytes.now }
 {
@@ -147,6 +151,7 @@ fn record_suite(bytes: &[u8]) -> Option<Suite>
 }
 
 /// Whether the bytes are the record of some session state.
+#[tactic(auto, using(crate::proofs::Trip::tells), unfolding(crate::specs::Records::isRecord))]
 pub fn is_record(bytes: &[u8]) -> bool
     ensures value { result ≡ isRecord bytes.now }
     ensures decides { Decides result (IsRecord bytes.now) }
@@ -154,29 +159,31 @@ pub fn is_record(bytes: &[u8]) -> bool
     record_suite(bytes).is_some()
 }
 
-/// The state in a record of a suite.
+// The state in a record of a suite.
 fn state_of(suite: Suite, bytes: &[u8]) -> SessionState
     requires { recordSuite bytes.now ≡ Some suite }
     ensures { result ≡ read_of suite bytes.now }
 {
     let name_at = SECRET_AT + suite.secret_length();
-    let mut secret = [0; SECRET_LENGTH];
-    secret.copy_from_slice(&bytes[SECRET_AT..name_at]);
-    let mut name = [0; NAME_LIMIT];
-    put_part(&mut name, 0, &bytes[name_at + 1..]);
-    SessionState {
+    let secret = &bytes[SECRET_AT..name_at];
+    let name = &bytes[name_at + 1..];
+    let mut state = SessionState {
         suite,
         issued_at: get_u64(bytes, 2),
         lifetime: get_u32(bytes, 10),
         age_add: get_u32(bytes, 14),
         early_data_limit: get_u32(bytes, 18),
-        secret,
-        name,
+        secret: [0; SECRET_LENGTH],
+        name: [0; NAME_LIMIT],
         name_length: bytes[name_at],
-    }
+    };
+    put_part(&mut state.secret, 0, secret);
+    put_part(&mut state.name, 0, name);
+    state
 }
 
 /// The state that a record holds. All other bytes are refused.
+#[tactic(auto, using(crate::proofs::Trip::suited), unfolding(crate::specs::Records::decodeOf))]
 pub fn read(bytes: &[u8]) -> Result<SessionState, Refusal>
     ensures value { result ≡ decodeOf bytes.now }
     ensures forth { IfOk result (λ s. Typed s × Fits s × (encodeOf s ≡ bytes.now)) }
@@ -190,6 +197,7 @@ pub fn read(bytes: &[u8]) -> Result<SessionState, Refusal>
 
 impl SessionState {
     /// Whether the fields make a record.
+    #[tactic(auto, using(crate::proofs::Fitting::fields_fit), unfolding(crate::specs::Records::fieldsFit))]
     pub fn fits(&self) -> bool
         ensures value { result ≡ fieldsFit self.now }
         ensures decides { Decides result (Fits self.now) }
@@ -203,6 +211,7 @@ impl SessionState {
 
     /// Writes the record from the buffer's start, with zeros after it, and answers its length.
     /// A buffer shorter than the longest record is refused, then fields that make no record; the buffer then holds zeros.
+    #[tactic(auto, unfolding(crate::specs::Records::written_of, crate::specs::Records::bufferOf))]
     pub fn write(&self, out: &mut [u8]) -> Result<usize, Refusal>
         ensures value { result ≡ written_of self.now (length out.old) }
         ensures out { out.new ≡ bufferOf self.now (length out.old) }
@@ -227,6 +236,17 @@ impl SessionState {
         put_part(out, name_at + 1, &self.name[0..n]);
         Ok(name_at + 1 + n)
     }
+}
+
+/// The lengths of a record and of its parts, and the longest lifetime.
+pub fn limits_stand() -> u8
+    ensures least { RECORD_LEAST ≡ leastLength }
+    ensures most { RECORD_LIMIT ≡ mostLength }
+    ensures secret { SECRET_LENGTH ≡ secretLimit }
+    ensures name { NAME_LIMIT ≡ nameLimit }
+    ensures lifetime { LIFETIME_LIMIT ≡ lifetimeLimit }
+{
+    0
 }
 
 /// States and records determine each other, and the lengths of a record.

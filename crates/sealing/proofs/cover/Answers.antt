@@ -1,9 +1,10 @@
-use Rattle.std.proofs.Common.{◌≡◌, ℕ, ◌+◌, ◌-◌, ◌<◌, ◌≤◌, List, ◌++◌, length, get_or, take, drop, sym, ap, ◌∙◌, ⊎_elim, add-mul, arith}
+use Rattle.std.proofs.Common.{◌≡◌, ℕ, ◌-◌, ◌<◌, ◌≤◌, List, ◌++◌, length, get_or, take, drop, sym, ap, ◌∙◌, ⊎_elim, add-mul, arith}
 use lib.Bits.{bit_xor}
 use Rattle.std.proofs.lemmas.List.{get_or-take}
 use Rattle.std.proofs.lemmas.Bool.{cases_lt}
 use Rattle.sealing.specs.Covering.{covered}
 use Rattle.sealing.proofs.Covers.{covered-here, covered-filled}
+use Rattle.sealing.proofs.Opens.{filled-front}
 use Rattle.sealing.proofs.cover.Goals as goal
 
 pub loop-at-preserved : goal.loop-at-preserved
@@ -14,7 +15,8 @@ loop-at-preserved g c =
     let some : 0 < size = omega (arith, g.met.S.Scheme.some c.args.scheme.now) in
     let stream : ℕ → List ℕ = g.S.Scheme.block c.args.scheme.now c.args.key.now in
     let pad : List ℕ = c.block.new.pad in
-    let filled : take size pad ≡ stream c.loop-at.index = ap (λ (x : ℕ). take x pad) is ∙ c.block.ensures in (
+    let whole : length (stream c.loop-at.index) ≡ size = g.met.S.Scheme.whole c.args.scheme.now c.args.key.now c.loop-at.index ∙ sym is in
+    let filled : take size pad ≡ stream c.loop-at.index = ap (take size) c.block.ensures ∙ filled-front (stream c.loop-at.index) 64 size whole in (
       omega (arith, c.loop-at.invariant.0, add-mul c.loop-at.index 1 size),
       omega (arith, c.loop-at.invariant.1),
       (λ k h p. ⊎_elim

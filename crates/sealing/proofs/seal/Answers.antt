@@ -1,15 +1,15 @@
 use Rattle.std.proofs.Common.{◌≡◌, ℕ, ◌+◌, ◌-◌, List, length, take, sym, refl, ap, ◌∙◌, arith}
 use lib.Seq.{paste}
-use Rattle.std.proofs.lemmas.List.{length-replicate, take_at}
+use Rattle.std.proofs.lemmas.List.{length-replicate}
 use Rattle.std.proofs.lemmas.Slice.{put_mid-paste}
-use Rattle.octets.specs.Buffers.{zeros, filled}
+use Rattle.octets.specs.Buffers.{filled}
 use Rattle.sealing.specs.Covering.{covered}
 use Rattle.sealing.proofs.Covers.{covered-long}
-use Rattle.sealing.proofs.Opens.{covered-zeros, sealed-parts}
+use Rattle.sealing.proofs.Opens.{filled-front, covered-zeros, sealed-parts}
 use Rattle.sealing.proofs.seal.Goals as goal
 
-pub returns : goal.returns
-returns g c =
+pub returns-clause-sealed : goal.returns-clause-sealed
+returns-clause-sealed g c =
     let block : ℕ → List ℕ = g.S.Scheme.block c.args.scheme.now c.args.key.now in
     let size : ℕ = g.S.Scheme.size c.args.scheme.now in
     let tag : List ℕ → List ℕ = g.S.Scheme.tag c.args.scheme.now c.args.key.now c.args.heading.now in
@@ -19,14 +19,16 @@ returns g c =
     let n : ℕ = length plain in
     let room : ℕ = length c.args.out.now in
     let bytes : List ℕ = covered block size plain in
-    let cleared : length c.clear.new.b ≡ room = ap length c.clear.ensures ∙ length-replicate {A = ℕ} room 0 in
-    let laid : c.cover.new.out ≡ filled bytes room = c.cover.ensures ∙ covered-zeros block size plain c.clear.new.b room c.clear.ensures in
+    let cleared : length c.clear_both.new.out ≡ room = ap length c.clear_both.ensures.out ∙ length-replicate {A = ℕ} room 0 in
+    let laid : c.cover.new.out ≡ filled bytes room = c.cover.ensures ∙ covered-zeros block size plain c.clear_both.new.out room c.clear_both.ensures.out in
     let front : take (n - 0) c.cover.new.out ≡ bytes =
-    ap (take (n - 0)) laid ∙ take_at bytes (zeros (room - length bytes)) (n - 0) (omega (arith, covered-long block size plain)) in
-    let whole : x - 0 ≡ g.S.Scheme.extra c.args.scheme.now = omega arith in
+    ap (take (n - 0)) laid ∙ filled-front bytes room (n - 0) (omega (arith, covered-long block size plain)) in
+    let tagged : (b : List ℕ) → length (tag b) ≡ x = λ b. g.met.S.Scheme.tagged c.args.scheme.now c.args.key.now c.args.heading.now b ∙ sym is in
+    let read : List ℕ = take (n - 0) c.cover.new.out in
+    let whole : x ≡ x - 0 = omega arith in
     let end : c.copy_from_slice.new.self ≡ tag bytes =
-    c.copy_from_slice.ensures.after ∙ ap (λ (m : ℕ). take m c.tag.new.out) whole ∙ c.tag.ensures ∙ ap tag front in
-    let long : length (tag bytes) ≡ x = g.met.S.Scheme.tagged c.args.scheme.now c.args.key.now c.args.heading.now bytes ∙ sym is in
+    c.copy_from_slice.ensures.after ∙ ap (take (x - 0)) c.tag.ensures.tagged ∙ filled-front (tag read) 32 (x - 0) (tagged read ∙ whole) ∙ ap tag front in
+    let long : length (tag bytes) ≡ x = tagged bytes in
     let written = put_mid-paste n (n + x - n) c.cover.new.out c.copy_from_slice.new.self (tag bytes) x end (omega arith) (sym long) in (
       (omega arith, omega arith),
       omega arith,

@@ -1,39 +1,42 @@
-use Rattle.std.proofs.Common.{◌≡◌, ℕ, ◌+◌, ◌-◌, ◌≤◌, List, [], length, get_or, take, drop, refl, ap, ◌∙◌, arith, rules}
-use Rattle.std.proofs.lemmas.List.{length-drop, length-take, take_rest}
+use Rattle.std.proofs.Common.{◌≡◌, ℕ, ◌+◌, ◌≤◌, List, [], length, get_or, take, drop, refl, ap, ◌∙◌, arith, rules}
+use Rattle.std.proofs.lemmas.List.{length-drop, length-take, length-take-le, take_rest}
 use Rattle.octets.specs.Buffers.{filled}
-use Rattle.session.proofs.Rows.{filled_next}
+use Rattle.session.proofs.Rows.{filled_next, filled_whole}
 use Rattle.session.proofs.Laid.{suite-laid}
 use Rattle.session.proofs.Trip.{read_made}
 use Rattle.session.proofs.state_of.Goals as goal
 
-pub slice_bounds-copy_from_slice-end-2 : goal.slice_bounds-copy_from_slice-end-2
-slice_bounds-copy_from_slice-end-2 c = let long = (suite-laid c.args.bytes.now c.args.suite c.requires).long in search rules
+pub slice_bounds-secret-end : goal.slice_bounds-secret-end
+slice_bounds-secret-end c = let long = (suite-laid c.args.bytes.now c.args.suite c.requires).long in search rules
 
-pub slice_bounds-put_part-count : goal.slice_bounds-put_part-count
-slice_bounds-put_part-count c = let long = (suite-laid c.args.bytes.now c.args.suite c.requires).long in omega arith
+pub slice_bounds-name-count : goal.slice_bounds-name-count
+slice_bounds-name-count c = let long = (suite-laid c.args.bytes.now c.args.suite c.requires).long in omega arith
 
-pub slice_bounds-put_part-start : goal.slice_bounds-put_part-start
-slice_bounds-put_part-start c = let long = (suite-laid c.args.bytes.now c.args.suite c.requires).long in search rules
+pub slice_bounds-name-start : goal.slice_bounds-name-start
+slice_bounds-name-start c = let long = (suite-laid c.args.bytes.now c.args.suite c.requires).long in search rules
 
-pub put_part-requires : goal.put_part-requires
-put_part-requires c =
+pub bounds-bytes-name_at : goal.bounds-bytes-name_at
+bounds-bytes-name_at c = let long = (suite-laid c.args.bytes.now c.args.suite c.requires).long in omega arith
+
+pub put_part-requires-2 : goal.put_part-requires-2
+put_part-requires-2 c =
     let l = suite-laid c.args.bytes.now c.args.suite c.requires in
     let whole = l.whole in
     let named = l.named in
     simp (length-take, length-drop) (omega arith)
 
-pub bounds-bytes-name_at : goal.bounds-bytes-name_at
-bounds-bytes-name_at c = let long = (suite-laid c.args.bytes.now c.args.suite c.requires).long in omega arith
-
 pub returns : goal.returns
 returns c =
     let l = suite-laid c.args.bytes.now c.args.suite c.requires in
     let n : c.secret_length-name_at.result ≡ 32 = c.secret_length-name_at.ensures in
-    let secret : c.copy_from_slice.new.self ≡ take 32 (drop 22 c.args.bytes.now) = c.copy_from_slice.ensures.after ∙ simp n in
+    let part : List ℕ = take 32 (drop 22 c.args.bytes.now) in
+    let whole : length part ≡ 32 = length-take-le 32 (drop 22 c.args.bytes.now) (omega (arith, length-drop 22 c.args.bytes.now, l.long)) in
+    let secret : c.put_part.new.row ≡ part =
+    c.put_part.ensures ∙ simp n (filled_next [] part 32 0 (length part) refl refl (omega arith)) ∙ filled_whole part 32 whole in
     let rest : List ℕ = drop 55 c.args.bytes.now in
     let long : length rest ≤ 32 = omega (arith, length-drop 55 c.args.bytes.now, l.whole, l.named) in
-    let name : c.put_part.new.row ≡ filled rest 32 =
-    c.put_part.ensures ∙ simp (n, take_rest) (filled_next [] rest 32 0 (length rest) refl refl (omega arith)) in
+    let name : c.put_part-2.new.row ≡ filled rest 32 =
+    c.put_part-2.ensures ∙ simp (n, take_rest) (filled_next [] rest 32 0 (length rest) refl refl (omega arith)) in
     read_made c.args.suite c.args.bytes.now _ _ _ _ _ _ _
     c.get_u64.ensures c.get_u32.ensures c.get_u32-2.ensures c.get_u32-3.ensures secret name
     (ap (λ (x : ℕ). get_or c.args.bytes.now (22 + x) 0) n)

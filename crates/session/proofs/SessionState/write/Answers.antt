@@ -2,26 +2,11 @@ use Rattle.std.proofs.Common.{◌≡◌, ℕ, ◌+◌, ◌-◌, ◌≤◌, true,
 use lib.Seq.{paste}
 use Rattle.octets.specs.Fields.{bytes_of}
 use Rattle.std.proofs.lemmas.List.{length-replicate}
-use Rattle.std.proofs.lemmas.Bool.{lt-ltb, le-ltb}
 use Rattle.octets.specs.Buffers.{filled}
 use Rattle.session.specs.Limits.{mostLength, name_at}
 use Rattle.session.specs.Records.{Typed, Fits, encodeOf, fieldsFit}
-use Rattle.session.proofs.Written.{filled-parts, answer, buffer, reads-back, too_short, no_record}
+use Rattle.session.proofs.Written.{filled-parts, answer, buffer, reads-back}
 use Rattle.session.proofs.SessionState.write.Goals as goal
-
-pub returns-then-out-lt-RECORD_LIMIT : goal.returns-then-out-lt-RECORD_LIMIT
-returns-then-out-lt-RECORD_LIMIT c =
-    let n : ℕ = length c.args.out.now in
-    let l : length c.clear.new.b ≡ n = ap length c.clear.ensures ∙ length-replicate {A = ℕ} n 0 in
-    let p = too_short c.args.self.now n c.clear.new.b (lt-ltb n mostLength (omega arith)) c.clear.ensures in
-    record { value = p.0; out = p.1; back = tt }
-
-pub returns-then-not-fits : goal.returns-then-not-fits
-returns-then-not-fits c =
-    let n : ℕ = length c.args.out.now in
-    let l : length c.clear.new.b ≡ n = ap length c.clear.ensures ∙ length-replicate {A = ℕ} n 0 in
-    let p = no_record c.args.self.now n c.clear.new.b (le-ltb n mostLength (omega arith)) (sym c.if-not-fits.ensures.value) c.clear.ensures in
-    record { value = p.0; out = p.1; back = tt }
 
 pub returns : goal.returns
 returns c =
