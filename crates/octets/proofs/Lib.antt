@@ -1,1 +1,2 @@
 pub mod Fielded
+pub mod Unseen
