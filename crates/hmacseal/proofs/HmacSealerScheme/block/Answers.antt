@@ -12,6 +12,6 @@ unfolding streamBlock
 returns c =
     let key : List ℕ = c.args.key.now in
     let message : List ℕ = 0x01 ∷ c.to_be_bytes.result in
-    ap (take 32) (c.finish_block.ensures key message (c.update-2.ensures _ _ (c.update.ensures _ _ c.new-mac.ensures.keyed)))
+    ap (take 32) (c.finish_block.ensures ∙ rw (c.update-2.ensures, c.update.ensures, c.new-mac.ensures.keyed))
     ∙ take_at (hmac key message) (replicate 32 0) 32 (mac-long key message)
     ∙ ap (λ (l : List ℕ). hmac key (0x01 ∷ l)) (c.to_be_bytes.ensures ∙ sym (bytes4 c.args.index))

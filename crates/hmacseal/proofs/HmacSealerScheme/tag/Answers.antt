@@ -7,4 +7,5 @@ pub returns : goal.returns
 unfolding tag_of
 returns c =
     take_all 32 c.finish.new.out (omega arith)
-    ∙ c.finish.ensures.is _ _ (c.update-3.ensures _ _ (c.update-2.ensures _ _ (c.update.ensures _ _ c.new-mac.ensures.keyed)))
+    ∙ c.finish.ensures.is
+    ∙ rw (c.update-3.ensures, c.update-2.ensures, c.update.ensures, c.new-mac.ensures.keyed)
