@@ -7,7 +7,7 @@ ghost use Rattle.std.proofs.lemmas.List.{length-take-le};
 ghost use Rattle.octets.specs.Buffers.{zeros};
 ghost use Rattle.chacha.proofs.Blocks.{block-long, block-bytes};
 ghost use Rattle.std.proofs.ByRecursion.{All-take, All-drop};
-ghost use Rattle.generators.specs.Small.{all-bytes};
+ghost use Rattle.octets.proofs.Small.{each-small};
 ghost use Rattle.sha.proofs.Digests.{digest-long, digest-bytes};
 
 use generator::Generator;
@@ -31,7 +31,7 @@ impl Generator for ChaChaGenerator {
 
     ghost bytes = { λ g v b.
         let a = block-bytes v 0 (zeros 12) in
-        (all-bytes _ (All-take (λ b. b < 256) 32 (childBlock v) a), all-bytes _ (All-drop (λ b. b < 256) 32 (childBlock v) a)) };
+        (each-small _ (All-take (λ b. b < 256) 32 (childBlock v) a), each-small _ (All-drop (λ b. b < 256) 32 (childBlock v) a)) };
 
     fn number(&self) -> u8 {
         1
@@ -59,7 +59,7 @@ impl Generator for ShaGenerator {
 
     ghost long = { λ g v l. (digest-long (v ++ 0 ∷ []), digest-long (v ++ 1 ∷ [])) };
 
-    ghost bytes = { λ g v b. (all-bytes _ (digest-bytes (v ++ 0 ∷ [])), all-bytes _ (digest-bytes (v ++ 1 ∷ []))) };
+    ghost bytes = { λ g v b. (each-small _ (digest-bytes (v ++ 0 ∷ [])), each-small _ (digest-bytes (v ++ 1 ∷ []))) };
 
     fn number(&self) -> u8 {
         2

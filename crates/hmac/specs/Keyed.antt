@@ -1,10 +1,13 @@
--- What a MAC in progress means.
-use Rattle.std.specs.Prelude.{ℕ, List, ◌++◌}
-use Rattle.sha.specs.Hasher.{Fed}
-use Rattle.hmac.specs.declared.Hmac.{Hmac}
+-- What a MAC in progress means, and what it holds.
+use Rattle.std.specs.Prelude.{◌≡◌, ℕ, List, ◌++◌}
 use Rattle.hmac.specs.Mac.{innerBlock, outerBlock}
 
--- h is keyed with k and has been fed the bytes m
-pub record Keyed (k m : List ℕ) (h : Hmac) : Type 0 where
-  pub message : Fed (innerBlock k ++ m) h.inner
-  pub key : Fed (outerBlock k) h.outer
+-- a key, and the bytes that were fed under it
+pub record Keyed : Type 0 where
+  pub key : List ℕ
+  pub message : List ℕ
+
+-- the bytes that the two hashes were fed: the masked key block, and in the inner one the message after it
+pub record Hashing (k m inner outer : List ℕ) : Type 0 where
+  pub inside : inner ≡ innerBlock k ++ m
+  pub outside : outer ≡ outerBlock k

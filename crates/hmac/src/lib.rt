@@ -1,29 +1,43 @@
 //! HMAC (RFC 2104) over SHA-256, of a message that is fed in parts.
+#![tactic(auto)]
+
 ghost use Rattle.std.specs.Prelude.{◌≡◌, ℕ, List, [], ◌++◌, replicate};
 ghost use Rattle.hmac.specs.Mac.{keyBlock, masked, hmac};
-ghost use Rattle.hmac.specs.Keyed.{Keyed};
 ghost use Rattle.hmac.specs.Laws.{MacLaws};
 
-use octets::Wiped;
+use octets::{Known, Wiped};
 use sha::Sha256;
+use std::marker::Model;
 
 // The bytes that mask the key block for the inner and for the outer hash.
 const INNER: u8 = 0x36;
 
 const OUTER: u8 = 0x5c;
 
-/// A MAC in progress. It means a key and the bytes fed so far: both hashes have been fed the masked key block, and the
-/// inner one the message after it.
+/// A MAC in progress, which contracts see as its key and the bytes fed so far. Both hashes have been fed the masked key
+/// block, and the inner one the message after it.
 #[derive(Drop)]
 pub struct Hmac {
     inner: Sha256,
     outer: Sha256,
+    key: Known,
+    fed: Known,
+}
+
+impl Model for Hmac {
+    ghost use Rattle.hmac.specs.Keyed.{Keyed, Hashing};
+
+    ghost Value = { Keyed };
+
+    ghost view = { λ h. record { key = h.key.bytes; message = h.fed.bytes } };
+
+    ghost invariant = { λ h. Hashing h.key.bytes h.fed.bytes h.inner h.outer };
 }
 
 impl Hmac {
     /// A MAC under `key` that has been fed nothing. The key block stands in `pad` alone, which holds zeros afterwards.
     pub fn new(key: &[u8], pad: &mut [u8; 64]) -> Hmac
-        ensures keyed { Keyed key.now [] result }
+        ensures keyed { result ≡ record { key = key.now; message = [] } }
         ensures wiped { pad.new ≡ replicate 64 0 }
     {
         let guard = Wiped { pad };
@@ -34,22 +48,32 @@ impl Hmac {
         mask(guard.pad, INNER ^ OUTER);
         let mut outer = Sha256::new();
         outer.update(&*guard.pad);
-        Hmac { inner, outer }
+        Hmac {
+            inner,
+            outer,
+            key: Known::none().then(key),
+            fed: Known::none(),
+        }
     }
 
     /// Feeds `part` after what came before.
     pub fn update(&mut self, part: &[u8])
-        ensures { (k m : List ℕ) → Keyed k m self.old → Keyed k (m ++ part.now) self.new }
+        ensures { self.new ≡ record { key = self.old.key; message = self.old.message ++ part.now } }
     {
         self.inner.update(part);
+        self.fed = self.fed.then(part);
     }
 
     /// Writes the MAC of what was fed. The laws say of every MAC that it is 32 bytes.
     pub fn finish(self, out: &mut [u8; 32])
-        ensures is { (k m : List ℕ) → Keyed k m self → out.new ≡ hmac k m }
+        ensures is { out.new ≡ hmac self.key self.message }
         ensures laws { MacLaws }
     {
-        let Hmac { inner, mut outer } = self;
+        let Hmac {
+            inner,
+            mut outer,
+            ..
+        } = self;
         inner.finish(out);
         outer.update(out);
         outer.finish(out);
@@ -57,9 +81,13 @@ impl Hmac {
 
     /// Writes the MAC of what was fed to the start of a block, and zeros after it, for a MAC that is key material.
     pub fn finish_block(self, out: &mut [u8; 64])
-        ensures { (k m : List ℕ) → Keyed k m self → out.new ≡ hmac k m ++ replicate 32 0 }
+        ensures { out.new ≡ hmac self.key self.message ++ replicate 32 0 }
     {
-        let Hmac { inner, mut outer } = self;
+        let Hmac {
+            inner,
+            mut outer,
+            ..
+        } = self;
         inner.finish_block(out);
         outer.update(&out[0..32]);
         outer.finish_block(out);

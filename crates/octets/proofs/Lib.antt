@@ -1,1 +1,3 @@
 pub mod Fielded
+pub mod Unseen
+pub mod Small

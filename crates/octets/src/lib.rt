@@ -1,8 +1,13 @@
 //! Bytes in lent buffers: big-endian fields, clearing, comparing without an early exit, and a guard for key material.
-ghost use Rattle.std.specs.Prelude.{◌≡◌, ℕ, ◌+◌, ◌≤◌, length, take, drop, replicate, Decides};
+#![tactic(auto)]
+
+ghost use Rattle.std.specs.Prelude.{◌≡◌, ℕ, ◌+◌, ◌≤◌, List, [], ◌++◌, length, take, drop, replicate, Decides};
+ghost use Rattle.std.specs.Borrow.{ftrue};
 ghost use Rattle.std.proofs.Math.Seq.{paste};
 ghost use Rattle.octets.specs.Fields.{bytes_of, number_of, FieldLaws};
 ghost use Rattle.octets.specs.Buffers.{zeros};
+
+use std::marker::Model;
 
 /// Writes a number of 2 bytes at a place.
 pub fn put_u16(b: &mut [u8], at: usize, v: u16)
@@ -99,5 +104,31 @@ impl Drop for Wiped<'_> {
     {
         *self.pad = [0; 64];
         let Wiped { pad: _ } = self;
+    }
+}
+
+/// Bytes that only proofs read. They take no memory, and the calls do nothing at run time.
+#[derive(Drop)]
+pub struct Known {
+    pub ghost bytes: { List ℕ },
+}
+
+impl Model for Known {
+    ghost also_owns = { λ _. ftrue };
+}
+
+impl Known {
+    /// No bytes.
+    pub fn none() -> Known
+        ensures { result.bytes ≡ [] }
+    {
+        Known {}
+    }
+
+    /// The bytes known before, and then those of `part`.
+    pub fn then(&self, _part: &[u8]) -> Known
+        ensures { result.bytes ≡ self.now.bytes ++ _part.now }
+    {
+        Known {}
     }
 }

@@ -3,42 +3,41 @@ use Rattle.std.proofs.Common.{◌≡◌, ℕ, suc, ◌+◌, ◌-◌, ◌*◌, �
 use borrow.Rule.Slice.PartMut.{put_mid}
 use Rattle.std.proofs.lemmas.List.{drop-append-le, take_all, drop_all, append_assoc, take-append-drop, take_rest, take-replicate}
 use Rattle.std.proofs.lemmas.Slice.{take-put_mid}
-use Rattle.sha.specs.declared.Sha256.{Sha256}
 use Rattle.sha.specs.Digest.{block_at, compressed, absorbed, startWords, gap, eightBytes, padded}
 use Rattle.sha.specs.Hasher.{Fed}
 use Rattle.sha.proofs.Absorbed.{absorbed-left, absorbed-right}
 
 -- the count tells how much of a block is begun
-pub begun : (m : List ℕ) (h : Sha256) → Fed m h → h.total % 64 ≡ length m % 64
-begun m h f = omega (arith, f.count)
+pub begun : (m s t : List ℕ) (n : ℕ) → Fed m s t n → n % 64 ≡ length m % 64
+begun m s t n f = omega (arith, f.count)
 
-counted : (m p : List ℕ) (h : Sha256) → Fed m h → (h.total + length p) % 2 ^ 64 ≡ length (m ++ p) % 2 ^ 64
-counted m p h f = omega (arith, f.count, length-append m p)
+counted : (m p s t : List ℕ) (n : ℕ) → Fed m s t n → (n + length p) % 2 ^ 64 ≡ length (m ++ p) % 2 ^ 64
+counted m p s t n f = omega (arith, f.count, length-append m p)
 
 -- a part that ends no block goes to the tail
-pub kept : (m p : List ℕ) (h : Sha256) (b k : ℕ) → Fed m h → length h.tail ≡ 64 → b ≡ h.total % 64 → b + length p < 64
-    → Fed (m ++ p) (record { state = h.state; tail = put_mid b k h.tail p; total = (h.total + length p) % 2 ^ 64 })
-kept m p h b k f wide is room =
-    let e : h.total % 64 ≡ length m % 64 = begun m h f in
+pub kept : (m p s t : List ℕ) (n b k : ℕ) → Fed m s t n → length t ≡ 64 → b ≡ n % 64 → b + length p < 64
+    → Fed (m ++ p) s (put_mid b k t p) ((n + length p) % 2 ^ 64)
+kept m p s t n b k f wide is room =
+    let e : n % 64 ≡ length m % 64 = begun m s t n f in
     let l : length (m ++ p) ≡ length m + length p = length-append m p in
     let q : length (m ++ p) / 64 ≡ length m / 64 = omega arith in
     let r : length (m ++ p) % 64 ≡ b + length p = omega arith in
     let d : 64 * (length m / 64) ≤ length m = omega arith in
-    let t : take (length m % 64) h.tail ≡ drop (64 * (length m / 64)) m = f.rest in
+    let u : take (length m % 64) t ≡ drop (64 * (length m / 64)) m = f.rest in
     let i : length m % 64 ≡ b = omega arith in
     record {
       hashed = rw (q, absorbed-left startWords m p (length m / 64) d) f.hashed;
-      rest = rw (q, r, take-put_mid b k h.tail p (b + length p) refl (omega arith), drop-append-le (64 * (length m / 64)) m p d, ← t, i);
-      count = counted m p h f;
+      rest = rw (q, r, take-put_mid b k t p (b + length p) refl (omega arith), drop-append-le (64 * (length m / 64)) m p d, ← u, i);
+      count = counted m p s t n f;
     }
 
 -- a part that ends the block begun: the tail is compressed
-pub completed : (m p : List ℕ) (h : Sha256) (n : ℕ) (tail state : List ℕ) → Fed m h → 0 < h.total % 64 → length p ≡ n → h.total % 64 + n ≡ 64
-    → tail ≡ take (h.total % 64) h.tail ++ p → state ≡ compressed h.state tail
-    → Fed (m ++ p) (record { state = state; tail = tail; total = (h.total + n) % 2 ^ 64 })
+pub completed : (m p s t : List ℕ) (n k : ℕ) (tail state : List ℕ) → Fed m s t n → 0 < n % 64 → length p ≡ k → n % 64 + k ≡ 64
+    → tail ≡ take (n % 64) t ++ p → state ≡ compressed s tail
+    → Fed (m ++ p) state tail ((n + k) % 2 ^ 64)
 unfolding absorbed block_at
-completed m p h n tail state f some size full is done =
-    let e : h.total % 64 ≡ length m % 64 = begun m h f in
+completed m p s t n k tail state f some size full is done =
+    let e : n % 64 ≡ length m % 64 = begun m s t n f in
     let l : length (m ++ p) ≡ length m + length p = length-append m p in
     let q : length (m ++ p) / 64 ≡ suc (length m / 64) = omega arith in
     let r : length (m ++ p) % 64 ≡ 0 = omega arith in
@@ -49,24 +48,24 @@ completed m p h n tail state f some size full is done =
     record {
       hashed = rw (q, absorbed-left startWords m p (length m / 64) d, drop-append-le (64 * (length m / 64)) m p d, take_all 64 (drop (64 * (length m / 64)) m ++ p) w, ← x, ← f.hashed) done;
       rest = rw (q, r, over);
-      count = rw (← size) (counted m p h f);
+      count = rw (← size) (counted m p s t n f);
     }
 
 -- whole blocks after whole blocks
-pub joined-blocks : (m p : List ℕ) (h : Sha256) (state : List ℕ) → Fed m h → h.total % 64 ≡ 0 → length p % 64 ≡ 0
-    → state ≡ absorbed h.state p (length p / 64)
-    → Fed (m ++ p) (record { state = state; tail = h.tail; total = (h.total + length p) % 2 ^ 64 })
-joined-blocks m p h state f none full done =
-    let e : h.total % 64 ≡ length m % 64 = begun m h f in
+pub joined-blocks : (m p s t : List ℕ) (n : ℕ) (state : List ℕ) → Fed m s t n → n % 64 ≡ 0 → length p % 64 ≡ 0
+    → state ≡ absorbed s p (length p / 64)
+    → Fed (m ++ p) state t ((n + length p) % 2 ^ 64)
+joined-blocks m p s t n state f none full done =
+    let e : n % 64 ≡ length m % 64 = begun m s t n f in
     let l : length (m ++ p) ≡ length m + length p = length-append m p in
     let q : length (m ++ p) / 64 ≡ length m / 64 + length p / 64 = omega arith in
     let r : length (m ++ p) % 64 ≡ 0 = omega arith in
     let w : length m ≡ 64 * (length m / 64) = omega arith in
-    let n : drop (64 * (length (m ++ p) / 64)) (m ++ p) ≡ [] = drop_all (64 * (length (m ++ p) / 64)) (m ++ p) (omega arith) in
+    let over : drop (64 * (length (m ++ p) / 64)) (m ++ p) ≡ [] = drop_all (64 * (length (m ++ p) / 64)) (m ++ p) (omega arith) in
     record {
       hashed = rw (q, absorbed-right startWords m p (length m / 64) (length p / 64) w, ← f.hashed) done;
-      rest = rw (n, r);
-      count = counted m p h f;
+      rest = rw (over, r);
+      count = counted m p s t n f;
     }
 
 -- a part cut into three, in the terms of the slices taken

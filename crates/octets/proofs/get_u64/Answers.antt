@@ -1,4 +1,4 @@
-use Rattle.std.proofs.Common.{◌≡◌, ℕ, ◌+◌, ◌-◌, List, length, take, drop, sym, ap, ◌∙◌, arith}
+use Rattle.std.proofs.Common.{◌≡◌, ℕ, ◌+◌, ◌-◌, List, take, drop, sym, ap, ◌∙◌, arith}
 use Rattle.octets.specs.Fields.{number_of}
 use Rattle.octets.proofs.Fielded.{number8}
 use Rattle.octets.proofs.get_u64.Goals as goal

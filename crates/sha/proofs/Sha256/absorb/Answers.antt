@@ -1,10 +1,9 @@
-use Rattle.std.proofs.Common.{arith}
-use Rattle.sha.proofs.Feeding.{joined-blocks}
+use Rattle.std.proofs.Common.{◌≡◌, ℕ, ◌%◌, List, length, ap, ◌∙◌}
+use Rattle.sha.proofs.Feeding.{begun, joined-blocks}
 use Rattle.sha.proofs.Sha256.absorb.Goals as goal
 
-pub returns : goal.returns
-returns c =
-    record {
-      whole = omega arith;
-      fed = λ m f. joined-blocks m c.args.blocks.now c.args.self.now _ f c.requires.0 c.requires.1 c.compress_all.ensures;
-    }
+pub invariant_of-self : goal.invariant_of-self
+invariant_of-self c =
+    let h = c.self.inside in
+    let none : h.total % 64 ≡ 0 = begun h.fed.bytes h.state h.tail h.total c.self.invariant ∙ ap (λ (m : List ℕ). length m % 64) c.self.view_is ∙ c.requires.0 in
+    rw c.then-self-inside.ensures (joined-blocks h.fed.bytes c.args.blocks.now h.state h.tail h.total _ c.self.invariant none c.requires.1 c.compress_all.ensures)

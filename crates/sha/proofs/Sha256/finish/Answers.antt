@@ -5,13 +5,12 @@ use Rattle.sha.specs.Digest.{fourBytes, sha256}
 use Rattle.sha.proofs.Digests.{digest-long, digest-bytes}
 use Rattle.sha.proofs.Sha256.finish.Goals as goal
 
-pub returns : goal.returns
+pub returns-clause-is : goal.returns-clause-is
 unfolding sha256
-returns c =
+returns-clause-is c =
     let words : List ℕ = flat_map fourBytes c.last_value-last.result in
     let none : drop 32 c.args.out.now ≡ [] = drop_all 32 c.args.out.now (omega arith) in
-    record {
-      is = λ m f.
-          c.write_words.ensures ∙ ap (λ (l : List ℕ). words ++ l) none ∙ append-nil words ∙ ap (flat_map fourBytes) (c.last_value-last.ensures m f);
-      laws = record { long = digest-long; bytes = digest-bytes };
-    }
+    c.write_words.ensures ∙ ap (λ (l : List ℕ). words ++ l) none ∙ append-nil words ∙ ap (flat_map fourBytes) c.last_value-last.ensures
+
+pub returns-clause-laws : goal.returns-clause-laws
+returns-clause-laws c = record { long = digest-long; bytes = digest-bytes }

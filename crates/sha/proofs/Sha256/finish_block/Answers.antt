@@ -5,4 +5,4 @@ use Rattle.sha.proofs.Sha256.finish_block.Goals as goal
 
 pub returns : goal.returns
 unfolding sha256
-returns c m f = c.write_words.ensures ∙ ap (λ (s : List ℕ). flat_map fourBytes s ++ replicate 32 0) (c.last_value-last.ensures m f)
+returns c = c.write_words.ensures ∙ ap (λ (s : List ℕ). flat_map fourBytes s ++ replicate 32 0) c.last_value-last.ensures

@@ -1,14 +1,13 @@
-use Rattle.std.proofs.Common.{ℕ, List, subst}
-use Rattle.sha.specs.Digest.{eightBytes, padded, lastValue}
-use Rattle.sha.specs.Hasher.{Fed}
+use Rattle.std.proofs.Common.{◌≡◌, ℕ, ◌%◌, ◌/◌, ◌^◌, List, length, ap, ◌∙◌}
+use Rattle.sha.specs.Digest.{eightBytes, startWords, absorbed, padded, lastValue}
 use Rattle.sha.proofs.Feeding.{padding}
 use Rattle.sha.proofs.Sha256.last_value.Goals as goal
 
 pub returns : goal.returns
 unfolding lastValue eightBytes
-returns c m f =
-    let marked = c.update.ensures m f in
-    let all = c.update-2.ensures _ marked in
-    let whole : Fed (padded m) c.update-2.new.self =
-    subst (λ (l : List ℕ). Fed l c.update-2.new.self) (padding m c.args.self.total _ f.count c.to_be_bytes-bits.ensures) all in
-    whole.hashed
+returns c =
+    let m : List ℕ = c.args.self in
+    let count : c.h.inside.total ≡ length m % 2 ^ 64 = c.h.invariant.count ∙ ap (λ (l : List ℕ). length l % 2 ^ 64) c.h.view_is in
+    let all : c.h-2.inside.fed.bytes ≡ padded m =
+    c.h-2.view_is ∙ rw (c.update-2.ensures, c.update.ensures) (padding m c.h.inside.total _ count c.to_be_bytes-bits.ensures) in
+    c.h-2.invariant.hashed ∙ ap (λ (l : List ℕ). absorbed startWords l (length l / 64)) all

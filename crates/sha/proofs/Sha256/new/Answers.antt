@@ -2,6 +2,6 @@ use Rattle.std.proofs.Common.{refl}
 use Rattle.sha.specs.Digest.{absorbed}
 use Rattle.sha.proofs.Sha256.new.Goals as goal
 
-pub returns : goal.returns
+pub invariant_of-result : goal.invariant_of-result
 unfolding absorbed
-returns c = record { hashed = c.start_words.ensures.is; rest = refl; count = refl }
+invariant_of-result c = rw c.none.ensures (record { hashed = c.start_words.ensures.is; rest = refl; count = refl })
