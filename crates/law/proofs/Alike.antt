@@ -18,12 +18,13 @@ use Rattle.rules.specs.Books.{Book, raised, noted, issue, redeem, fed}
 use Rattle.rules.specs.Pasts.{Mode, running, Past}
 use Rattle.law.specs.Law.{Uncut, Ask, issuing, redeeming, Reply, Served, done, issues, redeems, Agree, AlikeLaw}
 use Rattle.law.proofs.Invariant.{headFor, Inv}
+use Rattle.law.proofs.TicketParts.{follow-long}
 use Rattle.law.proofs.Readings.{inv-file}
 use Rattle.law.proofs.RedeemKeeps.{redeem-keeps}
 use Rattle.law.proofs.IssueKeeps.{issue-keeps}
 use Rattle.law.proofs.PastKeeps.{past-keeps}
 use Rattle.law.proofs.Told.{Out, issueBar, IssueTold, issue-same, redeemBar, Sealer, RedeemTold, redeem-same}
-use Rattle.law.proofs.Telling.{uncut-running, issue-length, redeem-length, length-follow, issue-told, redeem-told}
+use Rattle.law.proofs.Telling.{uncut-running, issue-length, redeem-length, issue-told, redeem-told}
 
 -- ---- what follows from agreement
 module _ (d : ℕ) (k : Kit) (root : List ℕ) (s : Slots) (b : Book) (k' : Kit) (root' : List ℕ) (s' : Slots) (b' : Book) (a : Agree d k root s b k' root' s' b') where
@@ -127,7 +128,7 @@ module _ (d : ℕ) (small : d ≤ 16) (name : List ℕ) (k k' : Kit) (root root'
       (at_most_one d b.spent n)
       (λ x m c. sym (key-same d k root s b k' root' s' b' a x n m c))
       (redeemBar d k.overhead (length s) b.issued name ticket room marks)
-      (λ l p q e f. law.apart key (headingIn ticket) p q (length-follow k law (way d 0 n) root v.rooted) l e.short f.short (e.sealing ∙ sym f.sealing))
+      (λ l p q e f. law.apart key (headingIn ticket) p q (follow-long k law root (way d 0 n) v.rooted) l e.short f.short (e.sealing ∙ sym f.sealing))
       told told3
 
 -- ---- all further calls

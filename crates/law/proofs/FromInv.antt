@@ -1,8 +1,8 @@
 -- What holds after every past gives the law's first two parts.
 use Rattle.std.proofs.Common.{◌≡◌, ℕ, ◌+◌, ◌-◌, ◌^◌, ◌<◌, ◌≤◌, Bool, true, ◌&&◌, ltb, leb, ◌↔◌, List, length, Ok, Err, sym, refl, ap, ◌∙◌, subst, ap₂, arith, pow_mono}
-use Rattle.std.proofs.lemmas.Bool.{and_from, le-leb, lt-ltb, cond-true}
+use Rattle.std.proofs.lemmas.Bool.{both_ways, and_from, le-leb, lt-ltb, cond-true}
 use Rattle.octets.specs.Buffers.{filled}
-use Rattle.refusal.specs.declared.Refusal.TheVariants.{NoFreeSlot}
+use Rattle.refusal.specs.declared.Refusal.TheVariants.{NoFreeSlot, NoPower}
 use Rattle.fault.specs.Faults.{placed}
 use Rattle.fault.specs.declared.Halt.{Halt}
 use Rattle.device.specs.Effects.{Slots}
@@ -60,6 +60,12 @@ rest-read k d root name s on b l v h xs e =
     subst (λ (ys : List Link). RestBlank s ys) q (v.rest refl)
 
 -- ---- its own
+-- how the redemption of the ticket g can end, where so many slots are free and its number lies under x
+data Ends (d free room : ℕ) (x : Node) (g : Given) (r : Outcome) (state : List ℕ) : Type 0 where
+  wanting : free < d - x.depth → r ≡ Err (placed NoFreeSlot g.number) → Ends d free room x g r state
+  cutOff : d - x.depth ≤ free → (h : Halt) → r ≡ Err h → h.refusal ≡ NoPower → Ends d free room x g r state
+  opening : d - x.depth ≤ free → r ≡ Ok (length g.state, d - x.depth) → state ≡ filled g.state room → Ends d free room x g r state
+
 -- a ticket given, whose number is unspent and lies under the node x of the cover
 module _ (k : Kit) (lawful : Lawful k) (d : ℕ) (root name : List ℕ) (s : Slots) (on : Bool) (b : Book)
     (deep : d ≤ 16) (v : Inv k d root name running s on b) (g : Given) (given : In g b.given) (x : Node) (here : In x (cover d b.spent)) (under : Covers d x g.number) where
@@ -148,82 +154,69 @@ module _ (k : Kit) (lawful : Lawful k) (d : ℕ) (root name : List ℕ) (s : Slo
       let t = link-over k d root b.spent v.links v.covers x here in
       (t.0, t.1, subst (λ (n : ℕ). Covers d t.0.node n) (sym number_is) (subst (λ (z : Node). Covers d z g.number) (sym t.2) under))
 
+  free : ℕ
+  free = length s - 1 - length (cover d b.spent)
+
+  -- what a hit tells of the free slots and of those that are needed
+  measured : (room marks : ℕ) (f : Sound) (front : List Link) (y : Link) (back : List Link) → Hit k d s on g.ticket room marks f front y back →
+      (freeCount s f.1 ≡ free) × (d - y.node.depth ≡ d - x.depth)
+  unfolding free
+  measured room marks f front y back h =
+      let c : length f.1 ≡ length v.links = ap (λ (z : Sound). length z.1) (found-is f room marks h.verdict) in
+      let a : length v.links ≡ length (cover d b.spent) = link-count k d root b.spent v.links v.covers in
+      let e : y.node.depth ≡ x.depth = ap (λ (z : Node). z.depth) (node-is y (on-chain room marks f front y back h) h.covers) in
+      (omega arith, omega arith)
+
+  ends : (room marks : ℕ) → mostLength ≤ room → roomOf (length s) ≤ marks →
+      (r : Outcome) (state : List ℕ) (t : Slots) (on' joined : Bool) → Redeeming k d s on g.ticket room marks r state t on' joined → Ends d free room x g r state
+  ends room marks lr lm r state t on' joined (declined h q e u j) =
+      let w = verdict-is room marks lr lm in
+      let z : ◌≡◌ {A = ℕ} 0 1 = cc in
+      absurd (omega arith)
+  ends room marks lr lm r state t on' joined (spent f q no-link e u j) =
+      let y = has-link in
+      absurd (no-link y.0 (subst (λ (z : Sound). In y.0 z.1) (sym (found-is f room marks q)) y.1) y.2)
+  ends room marks lr lm r state t on' joined (shut f front y back h no_plain e u j) =
+      absurd (no_plain g.state (seals y (on-chain room marks f front y back h) h.covers))
+  ends room marks lr lm r state t on' joined (strange f front y back plain h se odd e u j) =
+      let p = plain-is y (on-chain room marks f front y back h) h.covers plain se in
+      absurd (both_ways (isRecord g.state) (sym (ap isRecord p) ∙ odd) (v.records g given))
+  ends room marks lr lm r state t on' joined (full f front y back plain h se is few e u j) =
+      let m = measured room marks f front y back h in
+      wanting (omega arith) (e ∙ ap (λ (n : ℕ). Err (placed NoFreeSlot n)) number_is)
+  ends room marks lr lm r state t on' joined (cut f front y back plain fs n h hit se ready short e o z j) =
+      let m = measured room marks f front y back hit in
+      let enough = ready.room in
+      cutOff (omega arith) h e (ap (λ (w : Halt). w.refusal) short.halt)
+  ends room marks lr lm r state t on' joined (opened f front y back plain fs h se ready tq o j e st) =
+      let i = on-chain room marks f front y back h in
+      let m = measured room marks f front y back h in
+      let enough = ready.room in
+      let p : plain ≡ g.state = plain-is y i h.covers plain se in
+      opening (omega arith) (by_levels e ∙ ap₂ (λ (l : List ℕ) (z : Node). Ok (length l, d - z.depth)) p (node-is y i h.covers)) (st ∙ ap (λ (l : List ℕ). filled l room) p)
+
   -- with room for the puncture and no cut, only the opening is left
   opens-own : d - x.depth ≤ length s - 1 - length (cover d b.spent) → (room marks : ℕ) → mostLength ≤ room → roomOf (length s) ≤ marks →
       (r : Outcome) (state : List ℕ) (t : Slots) (on' joined : Bool) → Redeeming k d s on g.ticket room marks r state t on' joined → Uncut r →
       (r ≡ Ok (length g.state, d - x.depth)) × (state ≡ filled g.state room)
-  opens-own free room marks lr lm r state t on' joined (declined h q e u j) unc =
-      let w = verdict-is room marks lr lm in
-      let z : ◌≡◌ {A = ℕ} 0 1 = cc in
-      absurd (omega arith)
-  opens-own free room marks lr lm r state t on' joined (spent f q no-link e u j) unc =
-      let w = found-is f room marks q in
-      let y = has-link in
-      absurd (no-link y.0 (subst (λ (z : Sound). In y.0 z.1) (sym w) y.1) y.2)
-  opens-own free room marks lr lm r state t on' joined (shut f front y back h no_plain e u j) unc =
-      absurd (no_plain g.state (seals y (on-chain room marks f front y back h) h.covers))
-  opens-own free room marks lr lm r state t on' joined (strange f front y back plain h se ir e u j) unc =
-      let p = plain-is y (on-chain room marks f front y back h) h.covers plain se in
-      let c : isRecord g.state ≡ true = v.records g given in
-      let z : ◌≡◌ {A = ℕ} 0 1 = cc in
-      absurd (omega arith)
-  opens-own free room marks lr lm r state t on' joined (full f front y back plain h se ir few e u j) unc =
-      let n : y.node ≡ x = node-is y (on-chain room marks f front y back h) h.covers in
-      let w : f ≡ file = found-is f room marks h.verdict in
-      let c : length f.1 ≡ length v.links = ap (λ (z : Sound). length z.1) w in
-      let a : length v.links ≡ length (cover d b.spent) = link-count k d root b.spent v.links v.covers in
-      let e2 : y.node.depth ≡ x.depth = ap (λ (z : Node). z.depth) n in
-      absurd (omega arith)
-  opens-own free room marks lr lm r state t on' joined (cut f front y back plain fs m h hit se ready short e o z j) unc =
-      absurd (unc h e (ap (λ (w : Halt). w.refusal) short.halt))
-  opens-own free room marks lr lm r state t on' joined (opened f front y back plain fs h se ready tq o j e st) unc =
-      let i = on-chain room marks f front y back h in
-      let p : plain ≡ g.state = plain-is y i h.covers plain se in
-      let n : y.node ≡ x = node-is y i h.covers in (
-        by_levels e ∙ ap₂ (λ (l : List ℕ) (z : Node). Ok (length l, d - z.depth)) p n,
-        st ∙ ap (λ (l : List ℕ). filled l room) p,
-      )
-
-  no_room : length s - 1 - length (cover d b.spent) < d - x.depth → (room marks : ℕ) → mostLength ≤ room → roomOf (length s) ≤ marks →
-      (f : Sound) (front : List Link) (y : Link) (back : List Link) → Hit k d s on g.ticket room marks f front y back → d - y.node.depth ≤ freeCount s f.1 → ⊥
-  no_room tight room marks lr lm f front y back h enough =
-      let n : y.node ≡ x = node-is y (on-chain room marks f front y back h) h.covers in
-      let w : f ≡ file = found-is f room marks h.verdict in
-      let c : length f.1 ≡ length v.links = ap (λ (z : Sound). length z.1) w in
-      let a : length v.links ≡ length (cover d b.spent) = link-count k d root b.spent v.links v.covers in
-      let e2 : y.node.depth ≡ x.depth = ap (λ (z : Node). z.depth) n in
-      omega arith
+  unfolding free
+  opens-own enough room marks lr lm r state t on' joined call uncut =
+      elim (ends room marks lr lm r state t on' joined call) [
+        | wanting few e ↦ absurd (omega arith)
+        | cutOff l h e p ↦ absurd (uncut h e p)
+        | opening l e st ↦ (e, st)
+      ]
 
   -- with too few free slots it is declined for that
-  full-own : length s - 1 - length (cover d b.spent) < d - x.depth → (room marks : ℕ) → mostLength ≤ room → roomOf (length s) ≤ marks →
+  pub full-own : length s - 1 - length (cover d b.spent) < d - x.depth → (room marks : ℕ) → mostLength ≤ room → roomOf (length s) ≤ marks →
       (r : Outcome) (state : List ℕ) (t : Slots) (on' joined : Bool) → Redeeming k d s on g.ticket room marks r state t on' joined → r ≡ Err (placed NoFreeSlot g.number)
-  full-own tight room marks lr lm r state t on' joined (declined h q e u j) =
-      let w = verdict-is room marks lr lm in
-      let z : ◌≡◌ {A = ℕ} 0 1 = cc in
-      absurd (omega arith)
-  full-own tight room marks lr lm r state t on' joined (spent f q no-link e u j) =
-      let w = found-is f room marks q in
-      let y = has-link in
-      absurd (no-link y.0 (subst (λ (z : Sound). In y.0 z.1) (sym w) y.1) y.2)
-  full-own tight room marks lr lm r state t on' joined (shut f front y back h no_plain e u j) =
-      absurd (no_plain g.state (seals y (on-chain room marks f front y back h) h.covers))
-  full-own tight room marks lr lm r state t on' joined (strange f front y back plain h se ir e u j) =
-      let p = plain-is y (on-chain room marks f front y back h) h.covers plain se in
-      let c : isRecord g.state ≡ true = v.records g given in
-      let z : ◌≡◌ {A = ℕ} 0 1 = cc in
-      absurd (omega arith)
-  full-own tight room marks lr lm r state t on' joined (full f front y back plain h se ir few e u j) = e ∙ ap (λ (n : ℕ). Err (placed NoFreeSlot n)) number_is
-  full-own tight room marks lr lm r state t on' joined (cut f front y back plain fs m h hit se ready short e o z j) =
-      absurd (no_room tight room marks lr lm f front y back hit ready.room)
-  full-own tight room marks lr lm r state t on' joined (opened f front y back plain fs h se ready tq o j e st) =
-      absurd (no_room tight room marks lr lm f front y back h ready.room)
-
--- ---- too few free slots
-pub full-law : (k : Kit) (d : ℕ) (root name : List ℕ) (s : Slots) (on : Bool) (b : Book) → Lawful k → d ≤ 16 → Inv k d root name running s on b →
-    (g : Given) → In g b.given → (x : Node) → In x (cover d b.spent) → Covers d x g.number → length s - 1 - length (cover d b.spent) < d - x.depth →
-    (room marks : ℕ) → mostLength ≤ room → roomOf (length s) ≤ marks →
-    (r : Outcome) (state : List ℕ) (t : Slots) (on' joined : Bool) → Redeeming k d s on g.ticket room marks r state t on' joined → r ≡ Err (placed NoFreeSlot g.number)
-full-law k d root name s on b lawful l v g given x here under tight = full-own k lawful d root name s on b l v g given x here under tight
+  unfolding free
+  full-own few room marks lr lm r state t on' joined call =
+      elim (ends room marks lr lm r state t on' joined call) [
+        | wanting l e ↦ e
+        | cutOff l h e p ↦ absurd (omega arith)
+        | opening l e st ↦ absurd (omega arith)
+      ]
 
 -- ---- once, and its own
 pub once-law : (k : Kit) (d : ℕ) (root name : List ℕ) (m : Mode) (s : Slots) (on : Bool) (b : Book) → Lawful k → d ≤ 16 →

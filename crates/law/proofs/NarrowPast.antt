@@ -1,6 +1,8 @@
 -- A past on 18 slots: a make, five issues, and the redemption of the ticket of number 0, none of them cut.
-use Rattle.std.proofs.Common.{◌≡◌, ℕ, zero, suc, ◌^◌, ◌<◌, ◌≤◌, Bool, true, ◌&&◌, leb, ltb, List, [], ◌∷◌, ◌++◌, length, take, Ok, Err, Result, sym, refl, ap, ◌∙◌, subst, subst₂, ap₂, inl, inr, arith}
+use Rattle.std.proofs.Common.{◌≡◌, ℕ, suc, ◌^◌, ◌<◌, ◌≤◌, Bool, true, ◌&&◌, leb, ltb, List, [], ◌∷◌, ◌++◌, length, take, Ok, Err, Result, sym, refl, ap, ◌∙◌, subst, subst₂, ap₂, inl, inr, arith}
 use Rattle.std.proofs.lemmas.Bool.{cases_lt, and_from, le-leb, lt-ltb, cond-true}
+use Rattle.std.proofs.Math.ListN.{replicate}
+use Rattle.std.proofs.lemmas.List.{length-replicate}
 use Rattle.octets.specs.Buffers.{zeros}
 use Rattle.octets.specs.Fields.{number_of}
 use Rattle.refusal.specs.declared.Refusal.TheVariants.{ShortBuffer, SlotCount, NotARecord, Exhausted}
@@ -24,6 +26,7 @@ use Rattle.law.specs.Examples.{Narrow}
 use Rattle.law.specs.GoingOn.{IssueOutcome, RedeemOutcome}
 use Rattle.steps.proofs.Plans.{length-stood}
 use Rattle.law.proofs.FromInv.{once-law}
+use Rattle.law.proofs.Readings.{err-ok}
 use Rattle.law.proofs.Telling.{issue-told, issue-length, redeem-length}
 use Rattle.law.proofs.Told.{issueLeft, issueRecord, issueFits, issueBar, barred, given, ok-not-err}
 use Rattle.law.proofs.GoingOn.{holding, begins, issues, redeems, sealed, number-given}
@@ -39,19 +42,7 @@ shortest-record : isRecord shortest ≡ true
 unfolding shortest isRecord recordSuite laidOut number_of
 shortest-record = refl
 
-not-ok : (h : Halt) (a : ℕ × ℕ) → ◌≡◌ {A = Outcome} (Err h) (Ok a) → ⊥
-not-ok h a e = let z : ◌≡◌ {A = ℕ} 0 1 = cc in omega arith
-
 -- ---- what stands after each call
-blanks : ℕ → Slots
-blanks zero = []
-blanks (suc n) = blank ∷ blanks n
-
-length-blanks : (n : ℕ) → length (blanks n) ≡ n
-unfolding blanks
-length-blanks zero = refl
-length-blanks (suc n) = ap suc (length-blanks n)
-
 make-length : {k : Kit} {d : ℕ} {s : Slots} {on : Bool} {root name : List ℕ} {r : Result (Unit {0}) Halt} {t : Slots} {on' headed : Bool} →
     Making k d s on root name r t on' headed → length t ≡ length s
 make-length (Making.declined f e z p q) = ap length z
@@ -81,8 +72,8 @@ record Shelf (k : Kit) (root name : List ℕ) (n : ℕ) : Type 0 where
 module _ (k : Kit) (root name : List ℕ) where
   empty : length root ≡ valueLength → length name ≡ nameLength → Shelf k root name 0
   empty lr ln =
-      let l = length-blanks 18 in
-      let m = begins k root name (blanks 18) true lr ln (omega arith) (omega arith) in
+      let l = length-replicate 18 blank in
+      let m = begins k root name (replicate 18 blank) true lr ln (omega arith) (omega arith) in
       record { s = m.0; on = true; b = freshBook; past = m.2; slots = make-length m.1 ∙ l; issued = refl; spent = refl; tickets = λ i q. absurd (omega arith) }
 
   module _ (n : ℕ) (few : n < 2 ^ treeLevels) (w : Shelf k root name n) where
@@ -123,12 +114,12 @@ module _ (k : Kit) (root name : List ℕ) where
 -- a redemption that yields a state has its join standing
 ok-joined : {k : Kit} {d : ℕ} {s : Slots} {on : Bool} {ticket : List ℕ} {room marks : ℕ} {r : Outcome} {state : List ℕ} {t : Slots} {on' joined : Bool} (a : ℕ × ℕ) →
     Redeeming k d s on ticket room marks r state t on' joined → r ≡ Ok a → joined ≡ true
-ok-joined a (Redeeming.declined h v e u j) q = absurd (not-ok h a (sym e ∙ q))
-ok-joined a (spent f v n e u j) q = absurd (not-ok _ a (sym e ∙ q))
-ok-joined a (shut f front x back hit n e u j) q = absurd (not-ok _ a (sym e ∙ q))
-ok-joined a (strange f front x back plain hit p odd e u j) q = absurd (not-ok _ a (sym e ∙ q))
-ok-joined a (full f front x back plain hit p is few e u j) q = absurd (not-ok _ a (sym e ∙ q))
-ok-joined a (Redeeming.cut f front x back plain fs m h hit p ready c e o z j) q = absurd (not-ok h a (sym e ∙ q))
+ok-joined a (Redeeming.declined h v e u j) q = absurd (err-ok h a (sym e ∙ q))
+ok-joined a (spent f v n e u j) q = absurd (err-ok _ a (sym e ∙ q))
+ok-joined a (shut f front x back hit n e u j) q = absurd (err-ok _ a (sym e ∙ q))
+ok-joined a (strange f front x back plain hit p odd e u j) q = absurd (err-ok _ a (sym e ∙ q))
+ok-joined a (full f front x back plain hit p is few e u j) q = absurd (err-ok _ a (sym e ∙ q))
+ok-joined a (Redeeming.cut f front x back plain fs m h hit p ready c e o z j) q = absurd (err-ok h a (sym e ∙ q))
 ok-joined a (opened f front x back plain fs hit p ready z o j e l) q = j
 
 -- where this leads

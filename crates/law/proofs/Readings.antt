@@ -38,7 +38,7 @@ cond-ok false r h a e = let z : ◌≡◌ {A = ℕ} 0 1 = cc in absurd (omega ar
 pub ok_same : {A E : Type 0} (x y : A) → ◌≡◌ {A = Result A E} (Ok x) (Ok y) → x ≡ y
 ok_same x y e = cc
 
-err-ok : {A E : Type 0} (h : E) (a : A) → ◌≡◌ {A = Result A E} (Err h) (Ok a) → ⊥
+pub err-ok : {A E : Type 0} (h : E) (a : A) → ◌≡◌ {A = Result A E} (Err h) (Ok a) → ⊥
 err-ok h a e = let z : ◌≡◌ {A = ℕ} 0 1 = cc in omega arith
 
 -- an issue that may go on: of a record, from the file that was read, with a number left

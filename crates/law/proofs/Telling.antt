@@ -11,10 +11,10 @@ use Rattle.session.specs.Records.{isRecord}
 use Rattle.tree.specs.declared.Node.{Node}
 use Rattle.tree.specs.Nodes.{Covers}
 use Rattle.tree.specs.Cover.{In, cover}
-use Rattle.tree.specs.Values.{follow, key_of, keyFrom}
+use Rattle.tree.specs.Values.{key_of, keyFrom}
 use Rattle.chain.specs.Reading.{Link}
 use Rattle.marks.specs.Rows.{roomOf}
-use Rattle.rules.specs.Kits.{Kit, Lawful, valueLength, headingLength}
+use Rattle.rules.specs.Kits.{Kit, headingLength}
 use Rattle.rules.specs.Tickets.{ticketOf, nameIn, number_in, headingIn, sealedIn, ticketLeast, ticketLongest, ticketMost}
 use Rattle.steps.specs.OneStep.{Write}
 use Rattle.steps.specs.Writes.{CutShort}
@@ -61,12 +61,6 @@ redeem-length k d s on ticket room marks r state t on' joined (Redeeming.cut f f
     ap length c.slots ∙ length-stood s (take m (redeemWrites s front x back (newLinks k d x (number_in ticket) fs)))
 redeem-length k d s on ticket room marks r state t on' joined (Redeeming.opened f front x back plain fs hit sl ready z p q e l) =
     ap length z ∙ length-stood s (redeemWrites s front x back (newLinks k d x (number_in ticket) fs))
-
--- ---- a key is as long as a value
-pub length-follow : (k : Kit) → Lawful k → (bs : List Bool) (v : List ℕ) → length v ≡ valueLength → length (follow k.expansion v bs) ≡ valueLength
-length-follow k law [] v e = e
-length-follow k law (false ∷ bs) v e = length-follow k law bs (k.expansion.left v) (law.onLeft v e)
-length-follow k law (true ∷ bs) v e = length-follow k law bs (k.expansion.right v) (law.onRight v e)
 
 -- ---- verdicts without the file
 abbrev unfiled : Result Sound Halt → Barrier

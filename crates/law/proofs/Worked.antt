@@ -13,7 +13,7 @@ use Rattle.rules.specs.Pasts.{running}
 use Rattle.law.specs.Examples.{Narrow, TwoPasses, FourDeclined, NarrowServer, NarrowExample, AllExamples}
 use Rattle.law.proofs.Invariant.{Inv}
 use Rattle.law.proofs.PastKeeps.{past-keeps}
-use Rattle.law.proofs.FromInv.{once-law, full-law}
+use Rattle.law.proofs.FromInv.{once-law, full-own}
 use Rattle.law.proofs.GoingOn.{redeems, sealed}
 use Rattle.law.proofs.NarrowPast.{narrow-past}
 use Rattle.tree.proofs.Computed.{examples}
@@ -57,7 +57,7 @@ two-passes k root name s on b lawful w g given e room marks lr lm r state t on' 
 
 four-declined : FourDeclined
 four-declined k root name s on b lawful w g given e room marks lr lm r state t on' joined d =
-    full-law k treeLevels root name s on b lawful small (inv k root name s on b w) g given
+    full-own k lawful treeLevels root name s on b small (inv k root name s on b w) g given
     (nodeAt 14 4) (four-in k root name s on b w) (omega arith, omega arith)
     (omega (arith, many k root name s on b w, w.slots)) room marks lr (roomy k root name s on b w marks lm) r state t on' joined d ∙ ap (λ (n : ℕ). Err (placed NoFreeSlot n)) e
 
