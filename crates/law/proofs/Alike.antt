@@ -22,7 +22,7 @@ use Rattle.law.proofs.TicketParts.{follow-long}
 use Rattle.law.proofs.Readings.{inv-file}
 use Rattle.law.proofs.RedeemKeeps.{redeem-keeps}
 use Rattle.law.proofs.IssueKeeps.{issue-keeps}
-use Rattle.law.proofs.PastKeeps.{past-keeps}
+use Rattle.law.proofs.PastKeeps.{small, holding}
 use Rattle.law.proofs.Told.{Out, issueBar, IssueTold, issue-same, redeemBar, Sealer, RedeemTold, redeem-same}
 use Rattle.law.proofs.Telling.{uncut-running, issue-length, redeem-length, issue-told, redeem-told}
 
@@ -230,7 +230,6 @@ pub alike : (k k' : Kit) (root root' name : List ℕ) (s s' : Slots) (on on' : B
     Past k treeLevels root name running s on b → Past k' treeLevels root' name running s' on' b' →
     Agree treeLevels k root s b k' root' s' b' → AlikeLaw k treeLevels s on k' s' on'
 alike k k' root root' name s s' on on' b b' law law' p p' a =
-    let small : treeLevels ≤ 16 = omega arith in
     alike-law k k' treeLevels root root' name s s' on on' b b' law law' small
-    (past-keeps k treeLevels root name running s on b small p)
-    (past-keeps k' treeLevels root' name running s' on' b' small p') a
+    (holding k root name running s on b p)
+    (holding k' root' name running s' on' b' p') a

@@ -23,16 +23,10 @@ use Rattle.law.proofs.Invariant.{headFor, fileFor, Inv}
 use Rattle.law.proofs.TicketParts.{heading-in, sealed-in, number-in}
 use Rattle.law.proofs.Links.{key-is}
 use Rattle.law.proofs.Readings.{inv-file, inv-read}
-use Rattle.law.proofs.PastKeeps.{past-keeps}
+use Rattle.law.proofs.PastKeeps.{small, holding}
 use Rattle.law.proofs.FromInv.{sound-links}
 use Rattle.law.proofs.Telling.{uncut-running}
 use Rattle.law.proofs.Outcomes.{outcomes}
-
-small : treeLevels ≤ 16
-small = omega arith
-
-pub holding : (k : Kit) (root name : List ℕ) (m : Mode) (s : Slots) (on : Bool) (b : Book) → Past k treeLevels root name m s on b → Inv k treeLevels root name m s on b
-holding k root name m s on b p = past-keeps k treeLevels root name m s on b small p
 
 pub begins : (k : Kit) (root name : List ℕ) (s : Slots) (on : Bool) → length root ≡ valueLength → length name ≡ nameLength →
     slotsLeast treeLevels ≤ length s → length s ≤ slotsMost →

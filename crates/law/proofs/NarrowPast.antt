@@ -29,10 +29,8 @@ use Rattle.law.proofs.FromInv.{once-law}
 use Rattle.law.proofs.Readings.{err-ok}
 use Rattle.law.proofs.Telling.{issue-told, issue-length, redeem-length}
 use Rattle.law.proofs.Told.{issueLeft, issueRecord, issueFits, issueBar, barred, given, ok-not-err}
-use Rattle.law.proofs.GoingOn.{holding, begins, issues, redeems, sealed, number-given}
-
-small : treeLevels ≤ 16
-small = omega arith
+use Rattle.law.proofs.PastKeeps.{small, holding}
+use Rattle.law.proofs.GoingOn.{begins, issues, redeems, sealed, number-given}
 
 -- a record of the shortest, which lasts a second
 shortest : List ℕ

@@ -1,9 +1,10 @@
 -- What holds after every past, by induction over its calls.
-use Rattle.std.proofs.Common.{◌≡◌, ℕ, ◌+◌, ◌≤◌, Bool, ◌⊎◌, List, [], ◌∷◌, ◌++◌, get_or, take, sym, refl, ap, ◌∙◌, subst, inl, inr}
+use Rattle.std.proofs.Common.{◌≡◌, ℕ, ◌+◌, ◌≤◌, Bool, ◌⊎◌, List, [], ◌∷◌, ◌++◌, get_or, take, sym, refl, ap, ◌∙◌, subst, inl, inr, arith}
 use Rattle.device.specs.Effects.{Slot, Slots}
 use Rattle.fault.specs.declared.Step.TheVariants.{NewRecord}
 use Rattle.layout.specs.declared.Head.{Head}
 use Rattle.layout.specs.Records.{encodeHead, encodeNode}
+use Rattle.tree.specs.Nodes.{treeLevels}
 use Rattle.tree.specs.Cover.{In}
 use Rattle.tree.proofs.Members.{in-cases}
 use Rattle.chain.specs.Reading.{Link}
@@ -141,3 +142,10 @@ past-holds k d root name m s on b small (reopened s₀ on₀ b₀ marks r t on' 
 
 pub past-keeps : (k : Kit) (d : ℕ) (root name : List ℕ) (m : Mode) (s : Slots) (on : Bool) (b : Book) → d ≤ 16 → Past k d root name m s on b → Inv k d root name m s on b
 past-keeps k d root name m s on b small p = (past-holds k d root name m s on b small p).0
+
+-- of the trees in use
+pub small : treeLevels ≤ 16
+small = omega arith
+
+pub holding : (k : Kit) (root name : List ℕ) (m : Mode) (s : Slots) (on : Bool) (b : Book) → Past k treeLevels root name m s on b → Inv k treeLevels root name m s on b
+holding k root name m s on b p = past-keeps k treeLevels root name m s on b small p

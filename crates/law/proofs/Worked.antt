@@ -12,19 +12,16 @@ use Rattle.rules.specs.Books.{Given, Book}
 use Rattle.rules.specs.Pasts.{running}
 use Rattle.law.specs.Examples.{Narrow, TwoPasses, FourDeclined, NarrowServer, NarrowExample, AllExamples}
 use Rattle.law.proofs.Invariant.{Inv}
-use Rattle.law.proofs.PastKeeps.{past-keeps}
+use Rattle.law.proofs.PastKeeps.{small, holding}
 use Rattle.law.proofs.FromInv.{once-law, full-own}
 use Rattle.law.proofs.GoingOn.{redeems, sealed}
 use Rattle.law.proofs.NarrowPast.{narrow-past}
 use Rattle.tree.proofs.Computed.{examples}
 use Rattle.session.proofs.Fitting as lifetimes
 
-small : treeLevels ≤ 16
-small = omega arith
-
 module _ (k : Kit) (root name : List ℕ) (s : Slots) (on : Bool) (b : Book) (w : Narrow k root name s on b) where
   inv : Inv k treeLevels root name running s on b
-  inv = past-keeps k treeLevels root name running s on b small w.past
+  inv = holding k root name running s on b w.past
 
   roomy : (marks : ℕ) → roomOf 18 ≤ marks → roomOf (length s) ≤ marks
   roomy marks l = subst (λ (n : ℕ). roomOf n ≤ marks) (sym w.slots) l
