@@ -1,4 +1,6 @@
 //! A device over a lent row of bytes whose writes can tear. Its power is cut only by appointment.
+#![tactic(auto)]
+
 ghost use Rattle.std.specs.Prelude.{◌≡◌, true, Some, None};
 ghost use Rattle.device.specs.Effects.{Tearing, Restarting};
 ghost use Rattle.medium.specs.Appointed.{Struck, Restarted, partly};
@@ -41,13 +43,15 @@ impl<'a> ReadSlots for ByteImage<'a> {
 
     ghost powered = { λ s. s.power };
 
+    #[tactic(auto, using(medium::proofs::Rows::many))]
     fn count(&self) -> usize {
         self.row.len() / SLOT_SIZE
     }
 
+    #[tactic(auto, using(medium::proofs::Rows::slots))]
     fn read(&self, index: usize, out: &mut [u8; 64]) -> Result<(), DeviceFault> {
         *out = [0; 64];
-        if index >= self.row.len() / SLOT_SIZE {
+        if index >= self.count() {
             return Err(DeviceFault::NoSuchSlot);
         }
         if !self.power {
@@ -60,11 +64,12 @@ impl<'a> ReadSlots for ByteImage<'a> {
 }
 
 impl<'a> TearSlots for ByteImage<'a> {
+    #[tactic(auto, using(medium::proofs::Rows::many))]
     fn write(&mut self, index: usize, bytes: &[u8; 64]) -> Result<(), DeviceFault>
         ensures meaning { Tearing (slots_of self.old.row.now) self.old.power index bytes.now result (slots_of self.new.row.now) self.new.power }
         ensures exact { Struck partly (slots_of self.old.row.now) self.old.row.now self.old.power self.old.cut index bytes.now result self.new.row.now self.new.power self.new.cut }
     {
-        if index >= self.row.len() / SLOT_SIZE {
+        if index >= self.count() {
             return Err(DeviceFault::NoSuchSlot);
         }
         if !self.power {

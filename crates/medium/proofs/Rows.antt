@@ -101,3 +101,5 @@ put-part at k m row ys b e f =
 
 pub put_all : (at k : ℕ) (row ys b : List ℕ) (w : ℕ) → ys ≡ b → k ≡ w → length b ≡ w → put_mid at k row ys ≡ paste row at b w
 put_all at k row ys b w e f l = put-part at k w row ys b (e ∙ sym (take_all w b (omega arith))) f
+
+pub ruleset slots = (many, place)

@@ -1,39 +1,23 @@
-use Rattle.std.proofs.Common.{◌≡◌, ℕ, ◌+◌, ◌-◌, ◌*◌, ◌/◌, ◌<◌, ◌≤◌, length, take, Ok, Err, sym, refl, ap, ◌∙◌, inr, div-mul-le_self, arith, rules}
+use Rattle.std.proofs.Common.{◌≡◌, ◌+◌, ◌-◌, ◌*◌, ◌/◌, ◌<◌, length, take, Ok, Err, sym, refl, ap, ◌∙◌, inr, div-mul-le_self, arith, rules}
 use Rattle.device.specs.declared.DeviceFault.TheVariants.{NoPower}
 use Rattle.device.specs.Effects.{slotSize}
 use Rattle.medium.specs.Rows.{slots_of}
-use Rattle.medium.proofs.Rows.{many, put_all, put-part}
+use Rattle.medium.proofs.Rows.{put_all, put-part}
 use Rattle.medium.proofs.Meanings.{tears, partly-low}
 use Rattle.medium.specs.Appointed.{partly}
 use Rattle.image.proofs.ByteImageTearSlots.write.Goals as goal
-
-room : (l : ℕ) → l / slotSize * slotSize ≤ l
-room l = div-mul-le_self l slotSize
-
-pub returns-then-index-self : goal.returns-then-index-self
-returns-then-index-self c =
-    let row = c.args.self.now.row.now in
-    let n = many slotSize (length row / slotSize) row in
-    search rules
-
-pub returns-then-not-self : goal.returns-then-not-self
-returns-then-not-self c =
-    let row = c.args.self.now.row.now in
-    let n = many slotSize (length row / slotSize) row in
-    search rules
 
 pub returns-in-None : goal.returns-in-None
 returns-in-None c =
     let row = c.args.self.now.row.now in
     let b = c.args.bytes.now in
-    let n = many slotSize (length row / slotSize) row in
     let h : c.args.index < length (slots_of row) = omega arith in
     let fits : length b ≡ slotSize = search rules in
     let e = c.in-None.ensures in
     let on = c.if-not-self.false in
     let put = put_all (c.args.index * slotSize) _ row _ b slotSize c.copy_from_slice.ensures.after (omega arith) fits in
     record {
-      meaning = tears (λ l. l / slotSize) room partly partly-low row _ c.args.self.now.cut c.args.index b (Ok tt) _ _ _ fits (h, on, sym e.answer, put, on, e.rest);
+      meaning = tears (λ l. l / slotSize) (λ l. div-mul-le_self l slotSize) partly partly-low row _ c.args.self.now.cut c.args.index b (Ok tt) _ _ _ fits (h, on, sym e.answer, put, on, e.rest);
       exact = (h, on, sym e.answer, put, on, e.rest);
     }
 
@@ -42,7 +26,6 @@ returns-in-Some c =
     let row = c.args.self.now.row.now in
     let b = c.args.bytes.now in
     let m = c.in-Some.standing in
-    let n = many slotSize (length row / slotSize) row in
     let h : c.args.index < length (slots_of row) = omega arith in
     let fits : length b ≡ slotSize = search rules in
     let e = c.in-Some.ensures in
@@ -54,6 +37,6 @@ returns-in-Some c =
     let long : at + kept - at ≡ partly m = omega (arith, few) in
     let put = put-part at (at + kept - at) (partly m) row c.copy_from_slice-in-Some.new.self b part long in
     record {
-      meaning = tears (λ l. l / slotSize) room partly partly-low row _ c.args.self.now.cut c.args.index b (Err NoPower) _ _ _ fits (inr (refl, h, on, (m, sym e.answer, put), refl, e.rest));
+      meaning = tears (λ l. l / slotSize) (λ l. div-mul-le_self l slotSize) partly partly-low row _ c.args.self.now.cut c.args.index b (Err NoPower) _ _ _ fits (inr (refl, h, on, (m, sym e.answer, put), refl, e.rest));
       exact = inr (refl, h, on, (m, sym e.answer, put), refl, e.rest);
     }
