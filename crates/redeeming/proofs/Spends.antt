@@ -25,8 +25,8 @@ use Rattle.rules.specs.Tickets.{number_in, headingIn, sealedIn}
 use Rattle.steps.specs.Writes.{through, failed}
 use Rattle.rules.specs.Files.{lastSlot, freeCount}
 use Rattle.rules.specs.Calls.{Sound, Outcome, kept, slotsLeast, countFits, read_by, redeemable, redeemVerdict, Seals, Ready, Untouched, Redeeming, declined, spent, shut, strange, full, cut, opened}
-use Rattle.puncture.specs.Puncturing.{Lengthwise, Given, Puncturing}
-use Rattle.puncture.proofs.Files.{sound-chain}
+use Rattle.redeeming.specs.Puncturing.{Lengthwise, Given, Puncturing}
+use Rattle.redeeming.proofs.Files.{sound-chain}
 use Rattle.redeeming.specs.Steps.{roomy, Entering, enters, short, unfit, Known, Surveying, tells, halted, Met, Derived, Unsealing, noPlain, noRecord, aRecord, Spotted}
 
 err-ok : {A B : Type 0} (a : A) (b : B) → ◌≡◌ {A = Result A B} (Err b) (Ok a) → ⊥

@@ -16,6 +16,8 @@ ghost use Rattle.rules.specs.Tickets.{nameIn, number_in, headingIn, sealedIn};
 ghost use Rattle.rules.specs.Calls.{Sound, sameBytes, redeemable, Redeeming, kept};
 ghost use Rattle.redeeming.specs.Steps.{roomy, ticketFits, Entering, passing, Surveying, Met, Derived, Unsealing, Spotted};
 
+mod puncturing;
+
 use chain::{Found, Survey, read_marking};
 use device::{ReadSlots, WriteSlots};
 use fault::Halt;
@@ -23,7 +25,7 @@ use generator::{Generator, descend_keeping};
 use layout::Head;
 use marks::room;
 use octets::{clear, get_u32, same_bytes};
-use puncture::puncture;
+use puncturing::puncture;
 use refusal::Refusal;
 use rules::slot_count;
 use scratch::Scratch;

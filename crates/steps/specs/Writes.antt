@@ -1,5 +1,5 @@
 -- The writes of a call, one after another, and what the slots hold when some of them stand.
--- A write stands when it is done, or cut with its slot new.
+-- A write that is done stands; so does one that is cut and leaves the new bytes in its slot.
 use Rattle.std.specs.Prelude.{◌≡◌, ℕ, suc, Bool, true, false, ◌⊎◌, List, [], ◌∷◌, ◌++◌, length, take, Ok, Err, Result, slice_set}
 use Rattle.device.specs.Effects.{Slots}
 use Rattle.fault.specs.declared.Halt.{Halt}

@@ -21,8 +21,8 @@ use Rattle.tree.proofs.Flanks.{length-siblings}
 use Rattle.tree.proofs.Keys.{sibling-lies}
 use Rattle.rules.specs.Kits.{valueLength}
 use Rattle.rules.specs.Files.{linksIn, relinked}
-use Rattle.puncture.specs.Laying.{backward, value_at, lastLinks, linksFor}
-use Rattle.puncture.specs.Puncturing.{Lengthwise}
+use Rattle.redeeming.specs.Laying.{backward, value_at, lastLinks, linksFor}
+use Rattle.redeeming.specs.Puncturing.{Lengthwise}
 
 -- a record that is laid out without a value, and then the value
 pub valued-laid : (x : NodeFields) (b v w : List ℕ) → b ≡ encodeNode x (zeros 32) → w ≡ v → put_mid 32 32 b w ≡ encodeNode x v

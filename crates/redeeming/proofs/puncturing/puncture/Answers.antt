@@ -1,9 +1,9 @@
 use Rattle.std.proofs.Common.{arith}
 use Rattle.std.proofs.lemmas.Result.{err_from_is_err_and}
 use Rattle.tree.specs.Nodes.{treeLevels}
-use Rattle.puncture.proofs.Values.{listed-nodes, listed-fit}
-use Rattle.puncture.proofs.Done.{way_down, is-able, may-join, cut-records, cut-join, punctured}
-use Rattle.puncture.proofs.puncture.Goals as goal
+use Rattle.redeeming.proofs.Values.{listed-nodes, listed-fit}
+use Rattle.redeeming.proofs.Done.{way_down, is-able, may-join, cut-records, cut-join, punctured}
+use Rattle.redeeming.proofs.puncturing.puncture.Goals as goal
 
 pub returns-in_default : goal.returns-in_default
 returns-in_default g c = record {

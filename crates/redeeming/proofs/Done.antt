@@ -23,11 +23,11 @@ use Rattle.steps.specs.Writes.{stood, Ran, through, failed}
 use Rattle.rules.specs.Files.{relinked, entry, lastSlot, linksIn, recordOf, newWrites, joinWrite, eraseWrite, redeemWrites, FreeSlots, freeCount}
 use Rattle.rules.specs.Calls.{Sound, newLinks}
 use Rattle.steps.proofs.Plans.{stood-append, length-stood, ran-next, ran-cut, ran-as}
-use Rattle.puncture.specs.Laying.{openSlots, backward, value_at, linksFor, Able, Laid, all, cut}
-use Rattle.puncture.specs.Puncturing.{Given, Puncturing}
-use Rattle.puncture.proofs.Open.{Bounded, within, rises, backward-apart, backward-in, length-backward, open-count, chain-marked}
-use Rattle.puncture.proofs.Files.{Standing, Chained, slot_of, sound-chain}
-use Rattle.puncture.proofs.Values.{follow-long, value-at, links-are}
+use Rattle.redeeming.specs.Laying.{openSlots, backward, value_at, linksFor, Able, Laid, all, cut}
+use Rattle.redeeming.specs.Puncturing.{Given, Puncturing}
+use Rattle.redeeming.proofs.FreeSlots.{Bounded, within, rises, backward-apart, backward-in, length-backward, open-count, chain-marked}
+use Rattle.redeeming.proofs.Files.{Standing, Chained, slot_of, sound-chain}
+use Rattle.redeeming.proofs.Values.{follow-long, value-at, links-are}
 
 both : {b : Bool} → b ≡ true → b ≡ false → ⊥
 both p q = let z : true ≡ false = sym p ∙ q in let y : ◌≡◌ {A = ℕ} 0 1 = cc in omega arith

@@ -11,8 +11,8 @@ use Rattle.steps.specs.OneStep.{Write, writeOf, Stepped}
 use Rattle.steps.specs.Writes.{Ran}
 use Rattle.rules.specs.Files.{entry, newWrites}
 use Rattle.steps.proofs.Plans.{ran-none, ran-next, ran-cut, ran-as}
-use Rattle.puncture.specs.Laying.{openSlots, value_at, lastLinks, linksFor, Able, Laid, all, cut}
-use Rattle.puncture.proofs.Open.{First, first-is, none_left, left_over}
+use Rattle.redeeming.specs.Laying.{openSlots, value_at, lastLinks, linksFor, Able, Laid, all, cut}
+use Rattle.redeeming.proofs.FreeSlots.{First, first-is, none_left, left_over}
 
 -- of m nodes the last `m - left` are written
 pub record Going (s : Slots) (nodes : List Node) (row marks : List ℕ) (count last left from next : ℕ) (t : Slots) (on : Bool) : Type 0 where
