@@ -1,4 +1,7 @@
 //! Making a tree and reopening it, over a device lent for the call.
+//!
+//! This is the inside of crate `server`: the calls here work on a bare device and do not know a cold server from a running
+//! one. Go through `Cold::make` and `Cold::reopen`.
 #![tactic(auto)]
 
 ghost use Rattle.std.specs.Prelude.{◌≡◌, ℕ, ◌+◌, ◌<◌, ◌≤◌, Bool, true, List, [], length, replicate, slice_index_or};
@@ -9,18 +12,20 @@ ghost use Rattle.chain.specs.Listing.{markedAll};
 ghost use Rattle.tree.specs.Nodes.{treeLevels};
 ghost use Rattle.steps.specs.Writes.{Ran};
 ghost use Rattle.rules.specs.Files.{blankWrites, treeWrites, isBlank, sweepWrites};
-ghost use Rattle.rules.specs.Kits.{Kit};
+ghost use Rattle.rules.specs.Kits.{kitOf};
 ghost use Rattle.rules.specs.Calls.{Making, Reopening};
 ghost use Rattle.opening.specs.Sweeps.{sweepAt, Admitted};
 
 use chain::read_marking;
 use device::{ReadSlots, WriteSlots};
 use fault::{Halt, Step};
+use generator::Generator;
 use layout::{Head, NodeFields, encode_head, encode_node};
 use marks::{is_marked, room};
 use octets::{Wiped, clear};
 use refusal::Refusal;
 use rules::slot_count;
+use sealer::Sealer;
 use steps::{read_at, restart, write_at};
 use tree::LEVELS;
 
@@ -63,16 +68,16 @@ fn lay_tree<D: WriteSlots>(
     write_at(d, 0, guard.pad, Step::Make)
 }
 
-/// Makes a tree of a root value under a key name.
-pub fn make_on<D: WriteSlots>(
+/// Makes a tree of a root value under a key name. For the server alone: it works on a bare device.
+pub fn make_on<D: WriteSlots, G: Generator, S: Sealer>(
     d: &mut D,
+    g: &G,
+    s: &S,
     root: &[u8; 32],
     name: &[u8; 16],
-    generator: u8,
-    sealer: u8,
     slot: &mut [u8; 64],
 ) -> Result<(), Halt>
-    ensures did { (k : Kit) → k.generator ≡ generator → k.sealer ≡ sealer → (headed : Bool) × Making k treeLevels (D.ReadSlots.slots d.old) (D.ReadSlots.powered d.old) root.now name.now result (D.ReadSlots.slots d.new) (D.ReadSlots.powered d.new) headed }
+    ensures did { (headed : Bool) × Making (kitOf (G.Generator.expansion g.now) (G.Generator.code g.now) (S.Sealer.sealing s.now) (S.Sealer.overhead s.now) (S.Sealer.number s.now)) treeLevels (D.ReadSlots.slots d.old) (D.ReadSlots.powered d.old) root.now name.now result (D.ReadSlots.slots d.new) (D.ReadSlots.powered d.new) headed }
     ensures clean { slot.new ≡ replicate 64 0 }
 {
     let guard = Wiped { pad: slot };
@@ -82,8 +87,8 @@ pub fn make_on<D: WriteSlots>(
         first: 1,
         issued: 0,
         name: *name,
-        generator,
-        sealer,
+        generator: g.number(),
+        sealer: s.number(),
     };
     lay_tree(d, count, root, &head, guard.pad)
 }
@@ -147,36 +152,36 @@ fn admit<D: ReadSlots>(d: &D, marks: usize) -> Result<u16, Halt>
 }
 
 // Restarts the device, reads the file and sweeps the slots beside its chain.
-fn restart_and_sweep<D: WriteSlots>(
+fn restart_and_sweep<D: WriteSlots, G: Generator, S: Sealer>(
     d: &mut D,
-    generator: u8,
-    sealer: u8,
+    g: &G,
+    s: &S,
     marks: &mut [u8],
     slot: &mut [u8; 64],
 ) -> Result<(), Halt>
-    ensures { (k : Kit) → k.generator ≡ generator → k.sealer ≡ sealer → Reopening k treeLevels (D.ReadSlots.slots d.old) (D.ReadSlots.powered d.old) (length marks.old) result (D.ReadSlots.slots d.new) (D.ReadSlots.powered d.new) }
+    ensures { Reopening (kitOf (G.Generator.expansion g.now) (G.Generator.code g.now) (S.Sealer.sealing s.now) (S.Sealer.overhead s.now) (S.Sealer.number s.now)) treeLevels (D.ReadSlots.slots d.old) (D.ReadSlots.powered d.old) (length marks.old) result (D.ReadSlots.slots d.new) (D.ReadSlots.powered d.new) }
 {
     let count = admit(d, marks.len())?;
     restart(d)?;
-    read_marking(d, generator, sealer, None, marks, slot)?;
+    read_marking(d, g.number(), s.number(), None, marks, slot)?;
     sweep(d, count, marks, slot)
 }
 
 /// Reopens the tree on a device: restarts it, reads its file, and clears the free slots that hold anything but zeros.
-/// The marks and the lent slot hold zeros afterwards.
-pub fn reopen_on<D: WriteSlots>(
+/// The marks and the lent slot hold zeros afterwards. For the server alone: it works on a bare device.
+pub fn reopen_on<D: WriteSlots, G: Generator, S: Sealer>(
     d: &mut D,
-    generator: u8,
-    sealer: u8,
+    g: &G,
+    s: &S,
     marks: &mut [u8],
     slot: &mut [u8; 64],
 ) -> Result<(), Halt>
-    ensures did { (k : Kit) → k.generator ≡ generator → k.sealer ≡ sealer → Reopening k treeLevels (D.ReadSlots.slots d.old) (D.ReadSlots.powered d.old) (length marks.old) result (D.ReadSlots.slots d.new) (D.ReadSlots.powered d.new) }
+    ensures did { Reopening (kitOf (G.Generator.expansion g.now) (G.Generator.code g.now) (S.Sealer.sealing s.now) (S.Sealer.overhead s.now) (S.Sealer.number s.now)) treeLevels (D.ReadSlots.slots d.old) (D.ReadSlots.powered d.old) (length marks.old) result (D.ReadSlots.slots d.new) (D.ReadSlots.powered d.new) }
     ensures marks { marks.new ≡ zeros (length marks.old) }
     ensures clean { slot.new ≡ replicate 64 0 }
 {
     let guard = Wiped { pad: slot };
-    let done = restart_and_sweep(d, generator, sealer, marks, guard.pad);
+    let done = restart_and_sweep(d, g, s, marks, guard.pad);
     clear(marks);
     done
 }

@@ -1,5 +1,5 @@
 -- What the calls of a server promise: what they do (crate rules), what they hand back, and that a past goes on.
-use Rattle.std.specs.Prelude.{◌≡◌, ℕ, Bool, true, false, List, length, Ok, Err, Result}
+use Rattle.std.specs.Prelude.{◌≡◌, ℕ, Bool, true, false, List, Ok, Err, Result}
 use Rattle.device.specs.Effects.{Slots}
 use Rattle.fault.specs.declared.Call.{Call}
 use Rattle.fault.specs.declared.Call.TheVariants.{Make, Issue, Redeem, Reopen}
@@ -7,19 +7,37 @@ use Rattle.fault.specs.declared.Halt.{Halt}
 use Rattle.fault.specs.declared.Fault.{Fault}
 use Rattle.fault.specs.Faults.{faultOf}
 use Rattle.tree.specs.Nodes.{treeLevels}
-use Rattle.rules.specs.Kits.{Kit, Lawful, valueLength, nameLength}
+use Rattle.rules.specs.Kits.{Kit, Lawful}
 use Rattle.rules.specs.Calls.{Outcome, Making, Issuing, Redeeming, Reopening}
 use Rattle.rules.specs.Books.{Book, freshBook, issue, redeem, close, reopen, fed}
-use Rattle.rules.specs.Pasts.{Mode, running, cold, wantsPower, Past}
+use Rattle.rules.specs.Pasts.{Mode, running, cold, isNoPower, wantsPower, Past}
 use Rattle.law.specs.Law.{Law}
 use Rattle.server.specs.declared.Cold.{Cold}
 use Rattle.server.specs.declared.Running.{Running}
 use Rattle.server.specs.declared.Answered.{Answered}
 use Rattle.server.specs.declared.Answered.TheVariants.{Done, Refused, Cut}
 
--- the halt in a fault
+-- what stopped a call, without the call and the layer
 abbrev pub haltIn : Fault → Halt
 haltIn f = record { refusal = f.refusal; place = f.place; step = f.step }
+
+-- the answer of a call, where what stops it has become a fault
+abbrev pub faulted : {A : Type 0} → Call → Result A Halt → Result A Fault
+faulted c (Ok a) = Ok a
+faulted c (Err h) = Err (faultOf c h)
+
+-- ---- the calls over the parts of a server: what the rules say, and the fault for what stopped the call
+abbrev pub MakeWithin : Kit → Slots → Bool → List ℕ → List ℕ → Result (Unit {0}) Fault → Slots → Bool → Type 0
+MakeWithin k s on root name a t on' = (r : Result (Unit {0}) Halt) × (a ≡ faulted Make r) × ((headed : Bool) × Making k treeLevels s on root name r t on' headed)
+
+abbrev pub ReopenWithin : Kit → Slots → Bool → ℕ → Result (Unit {0}) Fault → Slots → Bool → Type 0
+ReopenWithin k s on marks a t on' = (r : Result (Unit {0}) Halt) × (a ≡ faulted Reopen r) × Reopening k treeLevels s on marks r t on'
+
+abbrev pub IssueWithin : Kit → Slots → Bool → List ℕ → ℕ → ℕ → Result (ℕ × ℕ) Fault → List ℕ → Slots → Bool → Type 0
+IssueWithin k s on plain room marks a ticket t on' = (r : Outcome) × (a ≡ faulted Issue r) × ((headed : Bool) × Issuing k treeLevels s on plain room marks r ticket t on' headed)
+
+abbrev pub RedeemWithin : Kit → Slots → Bool → List ℕ → ℕ → ℕ → Result (ℕ × ℕ) Fault → List ℕ → Slots → Bool → Type 0
+RedeemWithin k s on ticket room marks a state t on' = (r : Outcome) × (a ≡ faulted Redeem r) × ((joined : Bool) × Redeeming k treeLevels s on ticket room marks r state t on' joined)
 
 module _ {D G S : Type 0} where
   -- the parts that an answer hands back, whether the server runs, and the outcome
@@ -54,13 +72,19 @@ module _ {D G S : Type 0} where
   FaultOf c (Refused m f) = (f ≡ faultOf c (haltIn f)) × (wantsPower (haltIn f) ≡ false)
   FaultOf c (Cut m f) = (f ≡ faultOf c (haltIn f)) × (wantsPower (haltIn f) ≡ true)
 
-  -- a server handed back after a halt
-  pub record Stopped (device : D) (generator : G) (sealer : S) (h : Halt) (c : Call) (r : Answered D G S) : Type 0 where
-    pub sameDevice : deviceOf r ≡ device
-    pub sameGenerator : generatorOf r ≡ generator
-    pub sameSealer : sealerOf r ≡ sealer
-    pub outcome : outcomeIn r ≡ Err h
-    pub fault : FaultOf c r
+  -- a server that was to be made or reopened is handed back: running, or cold with the fault
+  abbrev pub started_by : D → G → S → Result (Unit {0}) Fault → Result (Running D G S) (Cold D G S × Fault)
+  started_by d g w (Ok u) = Ok (record { device = d; generator = g; sealer = w })
+  started_by d g w (Err f) = Err (record { device = d; generator = g; sealer = w }, f)
+
+  -- a running server is handed back: cold after want of power, else running
+  abbrev pub refused_by : Bool → D → G → S → Fault → Answered D G S
+  refused_by true d g w f = Cut (record { device = d; generator = g; sealer = w }) f
+  refused_by false d g w f = Refused (record { device = d; generator = g; sealer = w }) f
+
+  abbrev pub answered_by : D → G → S → Result (ℕ × ℕ) Fault → Answered D G S
+  answered_by d g w (Ok a) = Done (record { device = d; generator = g; sealer = w }) a
+  answered_by d g w (Err f) = refused_by (isNoPower f.refusal) d g w f
 
   module _ (slots : D → Slots) (powered : D → Bool) where
     -- issue: what it does, that a past goes on, and the law over pasts

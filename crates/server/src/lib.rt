@@ -3,18 +3,20 @@
 //! A server owns its device, generator and sealer, and is cold or running. Only a running one issues and redeems,
 //! and a call that meets a power cut gives a cold one back, so going on without reopening does not compile.
 //! What each call does stands in crate `rules`, the law over the pasts of a tree in crate `law`.
+#![tactic(auto)]
+
 ghost use Rattle.std.specs.Prelude.{◌≡◌, length};
 ghost use Rattle.octets.specs.Buffers.{zeros};
 ghost use Rattle.scratch.specs.Clean.{Clean};
 ghost use Rattle.rules.specs.Kits.{kitOf};
-ghost use Rattle.server.specs.Serving.{MakeCall, IssueCall, RedeemCall, CloseCall, ReopenCall, Stopped};
+ghost use Rattle.server.specs.Serving.{MakeCall, IssueCall, RedeemCall, CloseCall, ReopenCall, started_by, answered_by};
+
+mod parts;
 
 use device::WriteSlots;
-use fault::{Call, Fault, Halt};
+use fault::Fault;
 use generator::Generator;
-use issuing::issue_on;
-use opening::{make_on, reopen_on};
-use redeeming::redeem_on;
+use refusal::Refusal;
 use scratch::Scratch;
 use sealer::Sealer;
 
@@ -40,29 +42,71 @@ pub enum Answered<D, G, S> {
     Cut(Cold<D, G, S>, Fault),
 }
 
-// Hands the server back after a halt: cold after want of power.
-fn stopped<D, G, S>(device: D, generator: G, sealer: S, halt: Halt, call: Call) -> Answered<D, G, S>
-    ensures { Stopped device generator sealer halt call result }
+// Hands a server back that was to be made or reopened: running, or cold again with the fault.
+fn started<D, G, S>(
+    device: D,
+    generator: G,
+    sealer: S,
+    answer: Result<(), Fault>,
+) -> Result<Running<D, G, S>, (Cold<D, G, S>, Fault)>
+    ensures { result ≡ started_by device generator sealer answer }
 {
-    let fault = halt.during(call);
-    if halt.refusal.number() == 15 {
-        Answered::Cut(
+    match answer {
+        Ok(()) => Ok(Running {
+            device,
+            generator,
+            sealer,
+        }),
+        Err(fault) => Err((
             Cold {
                 device,
                 generator,
                 sealer,
             },
             fault,
-        )
-    } else {
-        Answered::Refused(
+        )),
+    }
+}
+
+// Hands a running server back: cold after want of power, else running.
+fn handed_back<D, G, S>(
+    device: D,
+    generator: G,
+    sealer: S,
+    answer: Result<(usize, u32), Fault>,
+) -> Answered<D, G, S>
+    ensures { result ≡ answered_by device generator sealer answer }
+{
+    match answer {
+        Ok(numbers) => Answered::Done(
             Running {
                 device,
                 generator,
                 sealer,
             },
-            fault,
-        )
+            numbers,
+        ),
+        Err(fault) => {
+            if fault.refusal == Refusal::NoPower {
+                Answered::Cut(
+                    Cold {
+                        device,
+                        generator,
+                        sealer,
+                    },
+                    fault,
+                )
+            } else {
+                Answered::Refused(
+                    Running {
+                        device,
+                        generator,
+                        sealer,
+                    },
+                    fault,
+                )
+            }
+        }
     }
 }
 
@@ -105,30 +149,8 @@ impl<D: WriteSlots, G: Generator, S: Sealer> Cold<D, G, S> {
             generator,
             sealer,
         } = self;
-        let made = make_on(
-            &mut device,
-            root,
-            name,
-            generator.number(),
-            sealer.number(),
-            &mut scratch.slot,
-        );
-        scratch.wipe();
-        match made {
-            Ok(()) => Ok(Running {
-                device,
-                generator,
-                sealer,
-            }),
-            Err(halt) => Err((
-                Cold {
-                    device,
-                    generator,
-                    sealer,
-                },
-                halt.during(Call::Make),
-            )),
-        }
+        let made = parts::make(&mut device, &generator, &sealer, root, name, scratch);
+        started(device, generator, sealer, made)
     }
 
     /// Reopens a tree: reads its file, and puts zeros into every free slot.
@@ -146,29 +168,8 @@ impl<D: WriteSlots, G: Generator, S: Sealer> Cold<D, G, S> {
             generator,
             sealer,
         } = self;
-        let opened = reopen_on(
-            &mut device,
-            generator.number(),
-            sealer.number(),
-            marks,
-            &mut scratch.slot,
-        );
-        scratch.wipe();
-        match opened {
-            Ok(()) => Ok(Running {
-                device,
-                generator,
-                sealer,
-            }),
-            Err(halt) => Err((
-                Cold {
-                    device,
-                    generator,
-                    sealer,
-                },
-                halt.during(Call::Reopen),
-            )),
-        }
+        let reopened = parts::reopen(&mut device, &generator, &sealer, marks, scratch);
+        started(device, generator, sealer, reopened)
     }
 }
 
@@ -206,7 +207,7 @@ impl<D: WriteSlots, G: Generator, S: Sealer> Running<D, G, S> {
             generator,
             sealer,
         } = self;
-        match issue_on(
+        let issued = parts::issue(
             &mut device,
             &generator,
             &sealer,
@@ -214,17 +215,8 @@ impl<D: WriteSlots, G: Generator, S: Sealer> Running<D, G, S> {
             ticket,
             marks,
             scratch,
-        ) {
-            Ok(numbers) => Answered::Done(
-                Running {
-                    device,
-                    generator,
-                    sealer,
-                },
-                numbers,
-            ),
-            Err(halt) => stopped(device, generator, sealer, halt, Call::Issue),
-        }
+        );
+        handed_back(device, generator, sealer, issued)
     }
 
     /// Redeems a ticket: its number is spent, and its state given, at most once.
@@ -244,7 +236,7 @@ impl<D: WriteSlots, G: Generator, S: Sealer> Running<D, G, S> {
             generator,
             sealer,
         } = self;
-        match redeem_on(
+        let redeemed = parts::redeem(
             &mut device,
             &generator,
             &sealer,
@@ -252,16 +244,7 @@ impl<D: WriteSlots, G: Generator, S: Sealer> Running<D, G, S> {
             state,
             marks,
             scratch,
-        ) {
-            Ok(numbers) => Answered::Done(
-                Running {
-                    device,
-                    generator,
-                    sealer,
-                },
-                numbers,
-            ),
-            Err(halt) => stopped(device, generator, sealer, halt, Call::Redeem),
-        }
+        );
+        handed_back(device, generator, sealer, redeemed)
     }
 }

@@ -1,5 +1,6 @@
 use Rattle.std.proofs.Common.{◌≡◌}
 use Rattle.tree.specs.Nodes.{treeLevels}
+use Rattle.rules.specs.Kits.{kitOf}
 use Rattle.rules.specs.Files.{firstHead}
 use Rattle.opening.proofs.Made.{made-from}
 use Rattle.opening.proofs.make_on.Goals as goal
@@ -8,8 +9,9 @@ pub returns : goal.returns
 returns g c =
     let n = c.in_ok-count.ensures in
     let u = c.in_ok-restart.ensures in
+    let k = kitOf (g.G.Generator.expansion c.args.g.now) (g.G.Generator.code c.args.g.now) (g.S.Sealer.sealing c.args.s.now) (g.S.Sealer.overhead c.args.s.now) (g.S.Sealer.number c.args.s.now) in
+    let h : record { first = 1; issued = 0; name = c.args.name.now; generator = c.number.result; sealer = c.number-2.result } ≡ firstHead k c.args.name.now = cc (c.number.ensures, c.number-2.ensures) in
     record {
-      did = λ k e f. let h : record { first = 1; issued = 0; name = c.args.name.now; generator = c.args.generator; sealer = c.args.sealer } ≡ firstHead k c.args.name.now = cc in
-          made-from k treeLevels _ _ _ _ _ _ _ _ _ u.0 h n.0 c.lay_tree.ensures.did;
+      did = made-from k treeLevels _ _ _ _ _ _ _ _ _ u.0 h n.0 c.lay_tree.ensures.did;
       clean = c.drop-guard-2.ensures;
     }

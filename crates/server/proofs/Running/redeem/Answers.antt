@@ -1,30 +1,17 @@
-use Rattle.server.proofs.Goes.{redeem-done, redeem-stopped}
+use Rattle.rules.specs.Kits.{kitOf}
+use Rattle.server.proofs.Goes.{redeem-answered}
 use Rattle.server.proofs.Running.redeem.Goals as goal
 
-pub returns-in-Ok : goal.returns-in-Ok
-returns-in-Ok g c =
+pub returns : goal.returns
+returns g c =
     record {
-      did = redeem-done _ _ _ (record {
+      did = rw c.handed_back.ensures (redeem-answered _ _ (kitOf (g.G.Generator.expansion c.args.self.generator) (g.G.Generator.code c.args.self.generator) (g.S.Sealer.sealing c.args.self.sealer) (g.S.Sealer.overhead c.args.self.sealer) (g.S.Sealer.number c.args.self.sealer)) (record {
         onLeft = λ v e. (g.met.G.Generator.long c.args.self.generator v e).0;
         onRight = λ v e. (g.met.G.Generator.long c.args.self.generator v e).1;
         small = g.met.S.Sealer.limited c.args.self.sealer;
         long = λ key heading plain a b l. g.met.S.Sealer.long c.args.self.sealer key heading plain a b l;
         apart = λ key heading p q a b l m e. g.met.S.Sealer.apart c.args.self.sealer key heading p q a b l m e;
-      }) _ _ _ _ _ _ _ c.in-Ok.ensures.did;
-      marks = c.in-Ok.ensures.marks;
-      clean = c.in-Ok.ensures.clean;
-    }
-
-pub returns-in-Err : goal.returns-in-Err
-returns-in-Err g c =
-    record {
-      did = redeem-stopped _ _ _ (record {
-        onLeft = λ v e. (g.met.G.Generator.long c.args.self.generator v e).0;
-        onRight = λ v e. (g.met.G.Generator.long c.args.self.generator v e).1;
-        small = g.met.S.Sealer.limited c.args.self.sealer;
-        long = λ key heading plain a b l. g.met.S.Sealer.long c.args.self.sealer key heading plain a b l;
-        apart = λ key heading p q a b l m e. g.met.S.Sealer.apart c.args.self.sealer key heading p q a b l m e;
-      }) _ _ _ _ _ _ _ _ c.stopped.ensures c.in-Err.ensures.did;
-      marks = c.in-Err.ensures.marks;
-      clean = c.in-Err.ensures.clean;
+      }) _ _ _ _ _ _ _ c.redeem-redeemed.ensures.did);
+      marks = c.redeem-redeemed.ensures.marks;
+      clean = c.redeem-redeemed.ensures.clean;
     }
