@@ -63,11 +63,11 @@ impl<'a> ReadSlots for ByteImage<'a> {
     }
 }
 
-impl<'a> TearSlots for ByteImage<'a> {
-    #[tactic(auto, using(medium::proofs::Rows::many))]
-    fn write(&mut self, index: usize, bytes: &[u8; 64]) -> Result<(), DeviceFault>
-        ensures meaning { Tearing (slots_of self.old.row.now) self.old.power index bytes.now result (slots_of self.new.row.now) self.new.power }
-        ensures exact { Struck partly (slots_of self.old.row.now) self.old.row.now self.old.power self.old.cut index bytes.now result self.new.row.now self.new.power self.new.cut }
+impl<'a> ByteImage<'a> {
+    // A write, and just what it does to the row.
+    #[tactic(auto, using(medium::proofs::Rows::pasting))]
+    fn write_row(&mut self, index: usize, bytes: &[u8; 64]) -> Result<(), DeviceFault>
+        ensures { Struck partly (slots_of self.old.row.now) self.old.row.now self.old.power self.old.cut index bytes.now result self.new.row.now self.new.power self.new.cut }
     {
         if index >= self.count() {
             return Err(DeviceFault::NoSuchSlot);
@@ -88,6 +88,15 @@ impl<'a> TearSlots for ByteImage<'a> {
                 Err(DeviceFault::NoPower)
             }
         }
+    }
+}
+
+impl<'a> TearSlots for ByteImage<'a> {
+    fn write(&mut self, index: usize, bytes: &[u8; 64]) -> Result<(), DeviceFault>
+        ensures meaning { Tearing (slots_of self.old.row.now) self.old.power index bytes.now result (slots_of self.new.row.now) self.new.power }
+        ensures exact { Struck partly (slots_of self.old.row.now) self.old.row.now self.old.power self.old.cut index bytes.now result self.new.row.now self.new.power self.new.cut }
+    {
+        self.write_row(index, bytes)
     }
 
     fn restart(&mut self) -> Result<(), DeviceFault>

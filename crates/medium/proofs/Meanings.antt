@@ -7,8 +7,8 @@ use Rattle.medium.specs.Rows.{slotsIn}
 use Rattle.medium.specs.Appointed.{Struck, partly}
 use Rattle.medium.proofs.Rows as rows
 
-pub partly-low : (m : ℕ) → partly m ≤ slotSize
-partly-low m = omega arith
+pub partly_low : (m : ℕ) → partly m ≤ slotSize
+partly_low m = omega arith
 
 module _ (many : ℕ → ℕ) (room : (l : ℕ) → many l * slotSize ≤ l) where
   abbrev slots : List ℕ → Slots
@@ -21,24 +21,24 @@ module _ (many : ℕ → ℕ) (room : (l : ℕ) → many l * slotSize ≤ l) whe
     ends : i * slotSize + slotSize ≤ length row
     ends = omega (arith, below, room (length row))
 
-    length-pasted : (m : ℕ) → m ≤ slotSize → length (paste row (i * slotSize) b m) ≡ length row
-    length-pasted m k = length-paste row (i * slotSize) b m (omega (arith, ends)) (omega arith)
+    length-paste_slot : (m : ℕ) → m ≤ slotSize → length (paste row (i * slotSize) b m) ≡ length row
+    length-paste_slot m k = length-paste row (i * slotSize) b m (omega (arith, ends)) (omega arith)
 
-    pub torn-slots : (m : ℕ) → m ≤ slotSize → slots (paste row (i * slotSize) b m) ≡ set (slots row) i (torn m (get_or (slots row) i []) b)
-    torn-slots m k = rw (length-pasted m k) (rows.pasted slotSize (many (length row)) row (room (length row)) i m b below k fits)
+    pub slots-paste : (m : ℕ) → m ≤ slotSize → slots (paste row (i * slotSize) b m) ≡ set (slots row) i (torn m (get_or (slots row) i []) b)
+    slots-paste m k = rw (length-paste_slot m k) (rows.pasted slotSize (many (length row)) row (room (length row)) i m b below k fits)
 
-    pub new-slots : slots (paste row (i * slotSize) b slotSize) ≡ set (slots row) i b
-    new-slots = rw (length-pasted slotSize (omega arith)) (rows.whole slotSize (many (length row)) row (room (length row)) i b below fits)
+    pub slots-paste_all : slots (paste row (i * slotSize) b slotSize) ≡ set (slots row) i b
+    slots-paste_all = rw (length-paste_slot slotSize (omega arith)) (rows.whole slotSize (many (length row)) row (room (length row)) i b below fits)
 
   pub tears : (stand : ℕ → ℕ) → ((m : ℕ) → stand m ≤ slotSize) → (row : List ℕ) (on : Bool) (c : Option Cut) (i : ℕ) (b : Slot) (r : Answer) (row' : List ℕ) (on' : Bool) (c' : Option Cut) → length b ≡ slotSize → Struck stand (slots row) row on c i b r row' on' c' → Tearing (slots row) on i b r (slots row') on'
-  tears stand low row on c i b (Ok _) row' on' c' fits d = (d.0, d.1, ap slots d.3 ∙ new-slots row i b fits d.0, d.4)
+  tears stand low row on c i b (Ok _) row' on' c' fits d = (d.0, d.1, ap slots d.3 ∙ slots-paste_all row i b fits d.0, d.4)
   tears stand low row on c i b (Err e) row' on' c' fits (inl d) = inl (d.0, ap slots d.1, d.2)
   tears stand low row on c i b (Err e) row' on' c' fits (inr d) =
-      inr (d.0, d.1, d.2, (stand d.3.0, low d.3.0, ap slots d.3.2 ∙ torn-slots row i b fits d.1 (stand d.3.0) (low d.3.0)), d.4)
+      inr (d.0, d.1, d.2, (stand d.3.0, low d.3.0, ap slots d.3.2 ∙ slots-paste row i b fits d.1 (stand d.3.0) (low d.3.0)), d.4)
 
   -- where a cut leaves none or all of the bytes
   pub wholes : (stand : ℕ → ℕ) → ((m : ℕ) → (stand m ≡ 0) ⊎ (stand m ≡ slotSize)) → (row : List ℕ) (on : Bool) (c : Option Cut) (i : ℕ) (b : Slot) (r : Answer) (row' : List ℕ) (on' : Bool) (c' : Option Cut) → length b ≡ slotSize → Struck stand (slots row) row on c i b r row' on' c' → Writing (slots row) on i b r (slots row') on'
-  wholes stand either row on c i b (Ok _) row' on' c' fits d = (d.0, d.1, ap slots d.3 ∙ new-slots row i b fits d.0, d.4)
+  wholes stand either row on c i b (Ok _) row' on' c' fits d = (d.0, d.1, ap slots d.3 ∙ slots-paste_all row i b fits d.0, d.4)
   wholes stand either row on c i b (Err e) row' on' c' fits (inl d) = inl (d.0, ap slots d.1, d.2)
   wholes stand either row on c i b (Err e) row' on' c' fits (inr d) =
       let m : ℕ = d.3.0 in
@@ -49,7 +49,7 @@ module _ (many : ℕ → ℕ) (room : (l : ℕ) → many l * slotSize ≤ l) whe
         d.2,
         elim (either m) [
           | inl z ↦ inl (left ∙ ap (λ k. slots (paste row (i * slotSize) b k)) z ∙ ap slots (rows.paste_none row (i * slotSize) b))
-          | inr z ↦ inr (left ∙ ap (λ k. slots (paste row (i * slotSize) b k)) z ∙ new-slots row i b fits d.1)
+          | inr z ↦ inr (left ∙ ap (λ k. slots (paste row (i * slotSize) b k)) z ∙ slots-paste_all row i b fits d.1)
         ],
         d.4,
       )

@@ -1,5 +1,5 @@
 -- The laws of slots in a row of bytes.
-use Rattle.std.proofs.Common.{◌≡◌, ℕ, zero, suc, ◌+◌, ◌-◌, ◌*◌, ◌<◌, ◌≤◌, List, [], ◌++◌, length, get_or, take, drop, set, sym, refl, ap, ◌∙◌, append_assoc, mul-le-mul_right, suc-mul, zero-add, zero-mul, arith}
+use Rattle.std.proofs.Common.{◌≡◌, ℕ, zero, suc, ◌+◌, ◌*◌, ◌<◌, ◌≤◌, List, [], ◌++◌, length, get_or, take, drop, set, sym, refl, ap, ◌∙◌, append_assoc, mul-le-mul_right, suc-mul, zero-add, zero-mul, arith}
 use lib.Seq.{paste, paste-zero}
 use borrow.Rule.Slice.PartMut.{put_mid}
 use Rattle.std.proofs.lemmas.List.{drop-drop, drop-take, take-take, take_at, drop_at, take_all, drop_all, append-nil, take-append-le, drop-append-le, take-append-drop, length-take, length-drop, length-append}
@@ -38,12 +38,12 @@ sized w n row f i h =
 abbrev stored : ℕ → List ℕ → ℕ → List ℕ → List ℕ
 stored w row at new = take at row ++ (new ++ drop (at + w) row)
 
-slots-stored : (w n i : ℕ) (row new : List ℕ) → length new ≡ w → i < n → n * w ≤ length row → slotsIn w n (stored w row (i * w) new) ≡ set (slotsIn w n row) i new
+slotsIn-stored : (w n i : ℕ) (row new : List ℕ) → length new ≡ w → i < n → n * w ≤ length row → slotsIn w n (stored w row (i * w) new) ≡ set (slotsIn w n row) i new
 unfolding slotsIn
-slots-stored w zero i row new l h f = absurd (omega arith)
-slots-stored w (suc n) zero row new l h f =
+slotsIn-stored w zero i row new l h f = absurd (omega arith)
+slotsIn-stored w (suc n) zero row new l h f =
     rw (zero-mul w, zero-add w, take_at new (drop w row) w l, drop_at new (drop w row) w l)
-slots-stored w (suc n) (suc i) row new l h f =
+slotsIn-stored w (suc n) (suc i) row new l h f =
     let at : suc i * w ≡ w + i * w = suc-mul i w ∙ omega arith in
     let room : suc n * w ≡ n * w + w = suc-mul n w in
     let X : List ℕ = new ++ drop (suc i * w + w) row in
@@ -52,7 +52,7 @@ slots-stored w (suc n) (suc i) row new l h f =
     let past : drop (suc i * w + w) row ≡ drop (i * w + w) (drop w row) = ap (λ k. drop k row) (omega arith) ∙ sym (drop-drop (i * w + w) w row) in
     let kept : drop w (take (suc i * w) row) ≡ take (i * w) (drop w row) = ap (λ k. drop w (take k row)) at ∙ drop-take w (i * w) row in
     let back : drop w (stored w row (suc i * w) new) ≡ stored w (drop w row) (i * w) new = drop-append-le w (take (suc i * w) row) X long ∙ cc in
-    let rest : slotsIn w n (stored w (drop w row) (i * w) new) ≡ set (slotsIn w n (drop w row)) i new = slots-stored w n i (drop w row) new l (omega arith) (simp length-drop (omega arith)) in
+    let rest : slotsIn w n (stored w (drop w row) (i * w) new) ≡ set (slotsIn w n (drop w row)) i new = slotsIn-stored w n i (drop w row) new l (omega arith) (simp length-drop (omega arith)) in
     cc
 
 -- the first m bytes, pasted over a slot, are that slot torn
@@ -75,7 +75,7 @@ pasted w n row f i m b h k l =
     let old : List ℕ = take w (drop (i * w) row) in
     let len : length (torn m old b) ≡ w = simp (length-append, length-take, length-drop) (omega arith) in
     ap (slotsIn w n) (paste-torn w (i * w) m row b k (omega arith))
-    ∙ slots-stored w n i row (torn m old b) len h f
+    ∙ slotsIn-stored w n i row (torn m old b) len h f
     ∙ ap (λ o. set (slotsIn w n row) i (torn m o b)) (sym (place w n row i h))
 
 -- all of its bytes: that slot is new
@@ -91,15 +91,16 @@ whole w n row f i b h l =
 pub paste_none : (row : List ℕ) (at : ℕ) (b : List ℕ) → paste row at b 0 ≡ row
 paste_none row at b = sym (paste-zero row at b)
 
--- what a write to `row[at..at + m]` leaves
-pub put-part : (at k m : ℕ) (row ys b : List ℕ) → ys ≡ take m b → k ≡ m → put_mid at k row ys ≡ paste row at b m
-put-part at k m row ys b e f =
-    ap (λ n. put_mid at n row ys) f
-    ∙ ap (λ t. take at row ++ (ys ++ t)) (drop-drop m at row)
-    ∙ ap (λ t. take at row ++ (t ++ drop (at + m) row)) e
+-- what a write of the first m bytes of b to `row[at..at + m]` leaves, and of all of them
+pub put_part : (at k m : ℕ) (row b : List ℕ) → k ≡ m → put_mid at k row (take m b) ≡ paste row at b m
+put_part at k m row b f =
+    ap (λ n. put_mid at n row (take m b)) f
+    ∙ ap (λ t. take at row ++ (take m b ++ t)) (drop-drop m at row)
     ∙ sym (append_assoc (take at row) (take m b) (drop (at + m) row))
 
-pub put_all : (at k : ℕ) (row ys b : List ℕ) (w : ℕ) → ys ≡ b → k ≡ w → length b ≡ w → put_mid at k row ys ≡ paste row at b w
-put_all at k row ys b w e f l = put-part at k w row ys b (e ∙ sym (take_all w b (omega arith))) f
+pub put_all : (at k w : ℕ) (row b : List ℕ) → k ≡ w → length b ≡ w → put_mid at k row b ≡ paste row at b w
+put_all at k w row b f l = ap (put_mid at k row) (sym (take_all w b (omega arith))) ∙ put_part at k w row b f
 
 pub ruleset slots = (many, place)
+
+pub ruleset pasting = (many, put_part, put_all, paste_none)

@@ -1,4 +1,6 @@
 //! What the devices at the bottom share: slots that lie side by side in a row of bytes, and a power cut by appointment.
+#![tactic(auto)]
+
 ghost use Rattle.std.specs.Prelude.{◌≡◌};
 ghost use Rattle.medium.specs.Appointed.{due, later};
 

@@ -1,4 +1,6 @@
 //! A device in memory, over a lent row of bytes, whose writes are whole. Its power is cut only by appointment.
+#![tactic(auto)]
+
 ghost use Rattle.std.specs.Prelude.{◌≡◌, true, Some, None};
 ghost use Rattle.device.specs.Effects.{Writing, Restarting};
 ghost use Rattle.medium.specs.Appointed.{Struck, Restarted};
@@ -42,13 +44,15 @@ impl<'a> ReadSlots for Memory<'a> {
 
     ghost powered = { λ s. s.power };
 
+    #[tactic(auto, using(medium::proofs::Rows::many))]
     fn count(&self) -> usize {
         self.row.len() / SLOT_SIZE
     }
 
+    #[tactic(auto, using(medium::proofs::Rows::slots))]
     fn read(&self, index: usize, out: &mut [u8; 64]) -> Result<(), DeviceFault> {
         *out = [0; 64];
-        if index >= self.row.len() / SLOT_SIZE {
+        if index >= self.count() {
             return Err(DeviceFault::NoSuchSlot);
         }
         if !self.power {
@@ -60,12 +64,13 @@ impl<'a> ReadSlots for Memory<'a> {
     }
 }
 
-impl<'a> WriteSlots for Memory<'a> {
-    fn write(&mut self, index: usize, bytes: &[u8; 64]) -> Result<(), DeviceFault>
-        ensures meaning { Writing (slots_of self.old.row.now) self.old.power index bytes.now result (slots_of self.new.row.now) self.new.power }
-        ensures exact { Struck wholly (slots_of self.old.row.now) self.old.row.now self.old.power self.old.cut index bytes.now result self.new.row.now self.new.power self.new.cut }
+impl<'a> Memory<'a> {
+    // A write, and just what it does to the row.
+    #[tactic(auto, using(medium::proofs::Rows::pasting))]
+    fn write_row(&mut self, index: usize, bytes: &[u8; 64]) -> Result<(), DeviceFault>
+        ensures { Struck wholly (slots_of self.old.row.now) self.old.row.now self.old.power self.old.cut index bytes.now result self.new.row.now self.new.power self.new.cut }
     {
-        if index >= self.row.len() / SLOT_SIZE {
+        if index >= self.count() {
             return Err(DeviceFault::NoSuchSlot);
         }
         if !self.power {
@@ -85,6 +90,15 @@ impl<'a> WriteSlots for Memory<'a> {
                 Err(DeviceFault::NoPower)
             }
         }
+    }
+}
+
+impl<'a> WriteSlots for Memory<'a> {
+    fn write(&mut self, index: usize, bytes: &[u8; 64]) -> Result<(), DeviceFault>
+        ensures meaning { Writing (slots_of self.old.row.now) self.old.power index bytes.now result (slots_of self.new.row.now) self.new.power }
+        ensures exact { Struck wholly (slots_of self.old.row.now) self.old.row.now self.old.power self.old.cut index bytes.now result self.new.row.now self.new.power self.new.cut }
+    {
+        self.write_row(index, bytes)
     }
 
     fn restart(&mut self) -> Result<(), DeviceFault>

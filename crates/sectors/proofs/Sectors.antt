@@ -1,8 +1,9 @@
 -- A slot that is changed within its sector, and the sector put back whole.
-use Rattle.std.proofs.Common.{◌≡◌, ℕ, ◌+◌, ◌-◌, ◌*◌, ◌/◌, ◌≤◌, List, ◌++◌, length, take, drop, sym, ap, ◌∙◌, append_assoc, div-mul-le_self, arith, take-add}
+use Rattle.std.proofs.Common.{◌≡◌, ℕ, ◌+◌, ◌*◌, ◌/◌, ◌≤◌, List, ◌++◌, length, take, drop, sym, ap, ◌∙◌, append_assoc, div-mul-le_self, arith, take-add}
 use lib.Seq.{paste, length-paste}
 use Rattle.std.proofs.lemmas.List.{drop-drop, take-take, take_all, take-append-drop, drop-append-le, length-take, length-drop}
 use Rattle.device.specs.Effects.{slotSize}
+use Rattle.medium.proofs.Rows.{pasting}
 use Rattle.sectors.specs.Sectors.{sectorSize, sectorSlots}
 
 pub room : (l : ℕ) → l / sectorSize * sectorSlots * slotSize ≤ l
@@ -24,3 +25,5 @@ within w s at m row b h f l =
     let right : paste row (s + at) b m ≡ ((take s row ++ take at (drop s row)) ++ take m b) ++ (drop (at + m) old ++ drop (s + w) row) = rw (start, rest) in
     let same : (take s row ++ ((take at (drop s row) ++ take m b) ++ drop (at + m) old)) ++ drop (s + w) row ≡ ((take s row ++ take at (drop s row)) ++ take m b) ++ (drop (at + m) old ++ drop (s + w) row) = simp append_assoc in
     left ∙ same ∙ sym right
+
+pub ruleset putting = (pasting, within)

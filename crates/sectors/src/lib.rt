@@ -1,5 +1,7 @@
 //! A device over a lent row of bytes that writes whole sectors of eight slots, and whose writes can tear. Its power is cut only by
 //! appointment.
+#![tactic(auto)]
+
 ghost use Rattle.std.specs.Prelude.{◌≡◌, ◌*◌, ◌/◌, ◌<◌, ◌≤◌, true, length, replicate, Some, None};
 ghost use Rattle.std.proofs.Math.Seq.{paste};
 ghost use Rattle.device.specs.Effects.{Tearing, Restarting, slotSize};
@@ -56,9 +58,36 @@ impl<'a> SectorImage<'a> {
         let SectorImage { row, sector, .. } = self;
         rewrite(row, sector, index, bytes, kept);
     }
+
+    // A write, and just what it does to the row.
+    #[tactic(auto, using(medium::proofs::Rows::many))]
+    fn write_row(&mut self, index: usize, bytes: &[u8; 64]) -> Result<(), DeviceFault>
+        ensures exact { Struck partly (slotsBySector self.old.row.now) self.old.row.now self.old.power self.old.cut index bytes.now result self.new.row.now self.new.power self.new.cut }
+        ensures wiped { self.old.sector ≡ replicate sectorSize 0 → self.new.sector ≡ replicate sectorSize 0 }
+    {
+        if index >= self.count() {
+            return Err(DeviceFault::NoSuchSlot);
+        }
+        if !self.power {
+            return Err(DeviceFault::NoPower);
+        }
+        match strike(&mut self.cut) {
+            None => {
+                self.store(index, bytes, SLOT_SIZE);
+                Ok(())
+            }
+            Some(standing) => {
+                self.power = false;
+                let kept = standing.min(SLOT_SIZE);
+                self.store(index, bytes, kept);
+                Err(DeviceFault::NoPower)
+            }
+        }
+    }
 }
 
 // Puts the first bytes of a slot in place, by way of its whole sector.
+#[tactic(auto, using(crate::proofs::Sectors::putting))]
 fn rewrite(row: &mut [u8], sector: &mut [u8; 512], index: usize, bytes: &[u8; 64], kept: usize)
     requires { (index < length row.old / sectorSize * sectorSlots) × (kept ≤ slotSize) }
     ensures put { row.new ≡ paste row.old (index * slotSize) bytes.now kept }
@@ -77,13 +106,15 @@ impl<'a> ReadSlots for SectorImage<'a> {
 
     ghost powered = { λ s. s.power };
 
+    #[tactic(auto, using(medium::proofs::Rows::many))]
     fn count(&self) -> usize {
         self.row.len() / SECTOR_SIZE * SECTOR_SLOTS
     }
 
+    #[tactic(auto, using(medium::proofs::Rows::slots))]
     fn read(&self, index: usize, out: &mut [u8; 64]) -> Result<(), DeviceFault> {
         *out = [0; 64];
-        if index >= self.row.len() / SECTOR_SIZE * SECTOR_SLOTS {
+        if index >= self.count() {
             return Err(DeviceFault::NoSuchSlot);
         }
         if !self.power {
@@ -101,24 +132,7 @@ impl<'a> TearSlots for SectorImage<'a> {
         ensures exact { Struck partly (slotsBySector self.old.row.now) self.old.row.now self.old.power self.old.cut index bytes.now result self.new.row.now self.new.power self.new.cut }
         ensures wiped { self.old.sector ≡ replicate sectorSize 0 → self.new.sector ≡ replicate sectorSize 0 }
     {
-        if index >= self.row.len() / SECTOR_SIZE * SECTOR_SLOTS {
-            return Err(DeviceFault::NoSuchSlot);
-        }
-        if !self.power {
-            return Err(DeviceFault::NoPower);
-        }
-        match strike(&mut self.cut) {
-            None => {
-                self.store(index, bytes, SLOT_SIZE);
-                Ok(())
-            }
-            Some(standing) => {
-                self.power = false;
-                let kept = standing.min(SLOT_SIZE);
-                self.store(index, bytes, kept);
-                Err(DeviceFault::NoPower)
-            }
-        }
+        self.write_row(index, bytes)
     }
 
     fn restart(&mut self) -> Result<(), DeviceFault>
