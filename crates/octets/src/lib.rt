@@ -3,16 +3,15 @@
 
 ghost use Rattle.std.specs.Prelude.{◌≡◌, ℕ, ◌+◌, ◌≤◌, List, [], ◌++◌, length, take, drop, replicate, Decides};
 ghost use Rattle.std.specs.Borrow.{ftrue};
-ghost use Rattle.std.proofs.Math.Seq.{paste};
 ghost use Rattle.octets.specs.Fields.{bytes_of, number_of, FieldLaws};
-ghost use Rattle.octets.specs.Buffers.{zeros};
+ghost use Rattle.octets.specs.Buffers.{zeros, pasted};
 
 use std::marker::Model;
 
 /// Writes a number of 2 bytes at a place.
 pub fn put_u16(b: &mut [u8], at: usize, v: u16)
     requires { at + 2 ≤ length b.old }
-    ensures { b.new ≡ paste b.old at (bytes_of 2 v) 2 }
+    ensures { b.new ≡ pasted b.old at (bytes_of 2 v) 2 }
 {
     b[at..at + 2].copy_from_slice(&v.to_be_bytes());
 }
@@ -20,7 +19,7 @@ pub fn put_u16(b: &mut [u8], at: usize, v: u16)
 /// Writes a number of 4 bytes at a place.
 pub fn put_u32(b: &mut [u8], at: usize, v: u32)
     requires { at + 4 ≤ length b.old }
-    ensures { b.new ≡ paste b.old at (bytes_of 4 v) 4 }
+    ensures { b.new ≡ pasted b.old at (bytes_of 4 v) 4 }
 {
     b[at..at + 4].copy_from_slice(&v.to_be_bytes());
 }
@@ -28,7 +27,7 @@ pub fn put_u32(b: &mut [u8], at: usize, v: u32)
 /// Writes a number of 8 bytes at a place.
 pub fn put_u64(b: &mut [u8], at: usize, v: u64)
     requires { at + 8 ≤ length b.old }
-    ensures { b.new ≡ paste b.old at (bytes_of 8 v) 8 }
+    ensures { b.new ≡ pasted b.old at (bytes_of 8 v) 8 }
 {
     b[at..at + 8].copy_from_slice(&v.to_be_bytes());
 }
