@@ -1,9 +1,11 @@
 -- The laws of a block: its length, and that its numbers are bytes.
-use Rattle.std.proofs.Common.{◌≡◌, ℕ, zero, suc, ◌*◌, ◌<◌, List, [], ◌∷◌, length, refl, ap, ◌∙◌, arith, length-set}
+use Rattle.std.proofs.Common.{◌≡◌, ℕ, zero, suc, ◌-◌, ◌*◌, ◌<◌, List, [], ◌∷◌, ◌++◌, length, take, drop, refl, sym, ap, ◌∙◌, arith, length-set, length-drop}
+use Rattle.std.proofs.lemmas.List.{length-take-le, take_all}
+use Rattle.std.proofs.lemmas.Grind.{flat_map-append}
 use Rattle.std.specs.List.{flat_map, AllByRecursion as All}
 use Rattle.std.proofs.ByRecursion.{All-append}
 use Rattle.chacha.specs.Cipher.{mixed, quarterRound, columnRounds, diagonalRounds, doubleRounds, words_of, start_of, added, serialized, block_of}
-use Rattle.chacha.proofs.Added.{length-added}
+use Rattle.chacha.proofs.Added.{length-added, added-cut}
 
 -- each step keeps the state's length
 mixed-long : (a b d k : ℕ) (s : List ℕ) → length (mixed a b d k s) ≡ length s
@@ -58,3 +60,22 @@ unfolding block_of
 block-bytes key counter nonce =
     let s : List ℕ = start_of key counter nonce in
     joined_bytes (added (doubleRounds 10 s) s)
+
+-- the bytes of the sums of the words from place i to place j
+unfoldable pub between : ℕ → ℕ → List ℕ → List ℕ → List ℕ
+between i j s f = flat_map serialized (added (take (j - i) (drop i s)) (take (j - i) (drop i f)))
+
+-- a block is its first eight words and its last eight
+pub halved : (s f : List ℕ) → length s ≡ 16 → length f ≡ 16 → flat_map serialized (added s f) ≡ between 0 8 s f ++ between 8 16 s f
+unfolding between
+halved s f p q =
+    let a : take 8 (drop 8 s) ≡ drop 8 s = take_all 8 (drop 8 s) (simp length-drop (omega arith)) in
+    let b : take 8 (drop 8 f) ≡ drop 8 f = take_all 8 (drop 8 f) (simp length-drop (omega arith)) in
+    rw (a, b, added-cut 8 s f (p ∙ sym q) (omega arith)) (flat_map-append serialized (added (take 8 s) (take 8 f)) (added (drop 8 s) (drop 8 f)))
+
+pub half-long : (s f : List ℕ) → length s ≡ 16 → length f ≡ 16 → length (between 0 8 s f) ≡ 32
+unfolding between
+half-long s f p q =
+    let a : length (take 8 s) ≡ 8 = length-take-le 8 s (omega arith) in
+    let b : length (take 8 f) ≡ 8 = length-take-le 8 f (omega arith) in
+    joined-long (added (take 8 s) (take 8 f)) ∙ ap (λ n. 4 * n) (length-added (take 8 s) (take 8 f) (a ∙ sym b) ∙ a)

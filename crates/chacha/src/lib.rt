@@ -1,6 +1,9 @@
 //! The block function of ChaCha20 (RFC 8439, section 2.3).
-ghost use Rattle.std.specs.Prelude.{◌≡◌, ◌+◌, ◌*◌, ◌^◌, ◌<◌, ◌≤◌, length};
-ghost use Rattle.chacha.specs.Cipher.{mixed, quarterRound, columnRounds, diagonalRounds, word_of, start_of, block_of};
+#![tactic(auto)]
+
+ghost use Rattle.std.specs.Prelude.{◌≡◌, ◌+◌, ◌*◌, ◌^◌, ◌<◌, ◌≤◌, length, take, drop};
+ghost use Rattle.std.specs.List.{flat_map};
+ghost use Rattle.chacha.specs.Cipher.{mixed, quarterRound, columnRounds, diagonalRounds, word_of, start_of, doubleRounds, added, serialized, block_of};
 ghost use Rattle.chacha.specs.Laws.{BlockLaws};
 
 // The sixteen bytes that the start block begins with.
@@ -12,12 +15,47 @@ pub fn block(key: &[u8; 32], counter: u32, nonce: &[u8; 12], out: &mut [u8; 64])
     ensures laws { BlockLaws }
 {
     let first = start(key, counter, nonce);
-    let mut s = first;
+    let last = worked(&first);
+    write_sums(&last, &first, out);
+}
+
+/// Fills two buffers with the halves of the block of `key`, `counter` and `nonce`.
+pub fn halves(
+    key: &[u8; 32],
+    counter: u32,
+    nonce: &[u8; 12],
+    left: &mut [u8; 32],
+    right: &mut [u8; 32],
+)
+    ensures left { left.new ≡ take 32 (block_of key.now counter nonce.now) }
+    ensures right { right.new ≡ drop 32 (block_of key.now counter nonce.now) }
+{
+    let begun = start(key, counter, nonce);
+    let done = worked(&begun);
+    write_sums(&done[0..8], &begun[0..8], left);
+    write_sums(&done[8..16], &begun[8..16], right);
+}
+
+// A start block after the twenty rounds.
+fn worked(first: &[u32; 16]) -> [u32; 16]
+    ensures { result ≡ doubleRounds 10 first.now }
+{
+    let mut s = *first;
     for _turn in 0..10usize {
         double_round(&mut s);
     }
-    for i in 0..16 {
-        let w = s[i].wrapping_add(first[i]).to_le_bytes();
+    s
+}
+
+// Adds two rows of words, and writes the sums as bytes, each word's lowest first.
+#[inline(always)]
+fn write_sums(a: &[u32], b: &[u32], out: &mut [u8])
+    requires rows { length a.now ≡ length b.now }
+    requires room { length out.old ≡ 4 * length a.now }
+    ensures { out.new ≡ flat_map serialized (added a.now b.now) }
+{
+    for i in 0..a.len() {
+        let w = a[i].wrapping_add(b[i]).to_le_bytes();
         out[4 * i..4 * i + 4].copy_from_slice(&w);
     }
 }

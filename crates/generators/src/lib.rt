@@ -1,4 +1,6 @@
 //! The two named generators.
+#![tactic(auto)]
+
 ghost use Rattle.std.specs.Prelude.{◌≡◌, ◌<◌, [], ◌∷◌, ◌++◌, length};
 ghost use Rattle.std.proofs.Common.{◌∙◌, arith, length-drop, rules};
 ghost use Rattle.sha.specs.Digest.{sha256};
@@ -12,6 +14,11 @@ ghost use Rattle.sha.proofs.Digests.{digest-long, digest-bytes};
 
 use generator::Generator;
 use sha::Sha256;
+
+// The numbers that a key file knows the two generators by.
+const CHACHA: u8 = 1;
+
+const SHA: u8 = 2;
 
 /// Generator 1: the ChaCha20 block of the parent's value as key, counter 0 and a nonce of zeros; the first half of the
 /// block is the left child's value and the second the right child's.
@@ -34,14 +41,11 @@ impl Generator for ChaChaGenerator {
         (each-small _ (All-take (λ b. b < 256) 32 (childBlock v) a), each-small _ (All-drop (λ b. b < 256) 32 (childBlock v) a)) };
 
     fn number(&self) -> u8 {
-        1
+        CHACHA
     }
 
     fn expand(&self, value: &[u8; 32], left: &mut [u8; 32], right: &mut [u8; 32]) {
-        let mut block = [0; 64];
-        chacha::block(value, 0, &[0; 12], &mut block);
-        left.copy_from_slice(&block[0..32]);
-        right.copy_from_slice(&block[32..64]);
+        chacha::halves(value, 0, &[0; 12], left, right);
     }
 }
 
@@ -62,7 +66,7 @@ impl Generator for ShaGenerator {
     ghost bytes = { λ g v b. (each-small _ (digest-bytes (v ++ 0 ∷ [])), each-small _ (digest-bytes (v ++ 1 ∷ []))) };
 
     fn number(&self) -> u8 {
-        2
+        SHA
     }
 
     fn expand(&self, value: &[u8; 32], left: &mut [u8; 32], right: &mut [u8; 32]) {
