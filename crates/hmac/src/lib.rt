@@ -65,32 +65,22 @@ impl Hmac {
     }
 
     /// Writes the MAC of what was fed. The laws say of every MAC that it is 32 bytes.
-    pub fn finish(self, out: &mut [u8; 32])
+    pub fn finish(mut self, out: &mut [u8; 32])
         ensures is { out.new ≡ hmac self.key self.message }
         ensures laws { MacLaws }
     {
-        let Hmac {
-            inner,
-            mut outer,
-            ..
-        } = self;
-        inner.finish(out);
-        outer.update(out);
-        outer.finish(out);
+        self.inner.finish(out);
+        self.outer.update(out);
+        self.outer.finish(out);
     }
 
     /// Writes the MAC of what was fed to the start of a block, and zeros after it, for a MAC that is key material.
-    pub fn finish_block(self, out: &mut [u8; 64])
+    pub fn finish_block(mut self, out: &mut [u8; 64])
         ensures { out.new ≡ hmac self.key self.message ++ replicate 32 0 }
     {
-        let Hmac {
-            inner,
-            mut outer,
-            ..
-        } = self;
-        inner.finish_block(out);
-        outer.update(&out[0..32]);
-        outer.finish_block(out);
+        self.inner.finish_block(out);
+        self.outer.update(&out[0..32]);
+        self.outer.finish_block(out);
     }
 }
 

@@ -8,9 +8,9 @@ use Rattle.sha.proofs.Sha256.finish.Goals as goal
 pub returns-clause-is : goal.returns-clause-is
 unfolding sha256
 returns-clause-is c =
-    let words : List ℕ = flat_map fourBytes c.last_value-last.result in
+    let words : List ℕ = flat_map fourBytes c.last_value-words.result in
     let none : drop 32 c.args.out.now ≡ [] = drop_all 32 c.args.out.now (omega arith) in
-    c.write_words.ensures ∙ ap (λ (l : List ℕ). words ++ l) none ∙ append-nil words ∙ ap (flat_map fourBytes) c.last_value-last.ensures
+    c.write_words.ensures ∙ ap (λ (l : List ℕ). words ++ l) none ∙ append-nil words ∙ ap (flat_map fourBytes) c.last_value-words.ensures
 
 pub returns-clause-laws : goal.returns-clause-laws
 returns-clause-laws c = record { long = digest-long; bytes = digest-bytes }

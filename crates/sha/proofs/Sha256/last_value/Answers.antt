@@ -7,7 +7,7 @@ pub returns : goal.returns
 unfolding lastValue eightBytes
 returns c =
     let m : List ℕ = c.args.self in
-    let count : c.h.inside.total ≡ length m % 2 ^ 64 = c.h.invariant.count ∙ ap (λ (l : List ℕ). length l % 2 ^ 64) c.h.view_is in
-    let all : c.h-2.inside.fed.bytes ≡ padded m =
-    c.h-2.view_is ∙ rw (c.update-2.ensures, c.update.ensures) (padding m c.h.inside.total _ count c.to_be_bytes-bits.ensures) in
-    c.h-2.invariant.hashed ∙ ap (λ (l : List ℕ). absorbed startWords l (length l / 64)) all
+    let count : c.self.inside.total ≡ length m % 2 ^ 64 = c.self.invariant.count ∙ ap (λ (l : List ℕ). length l % 2 ^ 64) c.self.view_is in
+    let all : c.self-2.inside.fed.bytes ≡ padded m =
+    c.self-2.view_is ∙ rw (c.update-2.ensures, c.update.ensures) (padding m c.self.inside.total _ count c.to_be_bytes-bits.ensures) in
+    c.self-2.invariant.hashed ∙ ap (λ (l : List ℕ). absorbed startWords l (length l / 64)) all
