@@ -1,8 +1,11 @@
 //! The key tree: its nodes, the cover of the spent numbers, and the values.
+#![tactic(auto)]
+
 ghost use Rattle.std.specs.Prelude.{◌≡◌, ℕ, ◌+◌, ◌^◌, ◌<◌, ◌≤◌, T, length, Some, None};
-ghost use Rattle.tree.specs.Nodes.{mostLevels, width_of, IsNode, Covers, HasChildren, left_of, rightOf, Twins};
+ghost use Rattle.tree.specs.declared.Node.{Node};
+ghost use Rattle.tree.specs.Nodes.{treeLevels, mostLevels, width_of, IsNode, Covers, HasChildren, left_of, rightOf, Twins};
 ghost use Rattle.tree.specs.Cover.{Characterised, InOrder, Exactly, AtMostOne, Exhausted, Least, SameSet, Few};
-ghost use Rattle.tree.specs.Puncture.{siblingsOn, Listed, SiblingsAre, Punctured, PuncturedAt};
+ghost use Rattle.tree.specs.Puncture.{siblingsOn, siblingsFrom, Listed, SiblingsAre, Punctured, PuncturedAt};
 ghost use Rattle.tree.specs.Values.{ValuesAre, Composed, KeyFrom, Agreed, PuncturedValues, KeysOf};
 ghost use Rattle.tree.specs.Examples.{Examples};
 
@@ -20,6 +23,17 @@ pub const ROW: usize = MOST_LEVELS as usize;
 pub struct Node {
     pub depth: u8,
     pub first: u32,
+}
+
+/// The sizes in use are the definitions': the trees that servers keep have no more levels than any tree may have, and a row
+/// has a place for each level of any tree, so that the siblings on every way down fit.
+pub fn sizes_stand() -> u8
+    ensures levels { LEVELS ≡ treeLevels }
+    ensures most { MOST_LEVELS ≡ mostLevels }
+    ensures within { LEVELS ≤ MOST_LEVELS }
+    ensures row { (d n : ℕ) (x : Node) → d ≤ MOST_LEVELS → length (siblingsFrom d x n) ≤ ROW }
+{
+    0
 }
 
 // Each method takes the number of levels of the tree that the node is to stand in.
@@ -71,11 +85,9 @@ impl Node {
     pub fn right(&self, height: u8) -> Option<Node>
         ensures { elim result [ Some x ↦ HasChildren height self.now × (x ≡ rightOf height self.now) | None ↦ (HasChildren height self.now → ⊥) ] }
     {
-        if self.depth >= height || !self.is_node(height) {
-            return None;
-        }
+        let left = self.left(height)?;
         Some(Node {
-            depth: self.depth + 1,
+            depth: left.depth,
             first: self.first + self.width(height) / 2,
         })
     }

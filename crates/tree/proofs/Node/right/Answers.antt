@@ -1,4 +1,5 @@
-use Rattle.std.proofs.Common.{◌≡◌, suc, ◌+◌, ◌/◌, ap₂, arith}
+use Rattle.std.proofs.Common.{◌≡◌, suc, ◌+◌, ◌/◌, ap, ap₂, arith}
+use Rattle.tree.specs.declared.Node.{Node}
 use Rattle.tree.specs.Nodes.{nodeAt, width_of}
 use Rattle.tree.proofs.Shapes.{halved}
 use Rattle.tree.proofs.Node.right.Goals as goal
@@ -7,9 +8,9 @@ pub returns : goal.returns
 returns c =
     let x = c.args.self.now in
     let d = c.args.height in
-    let i = c.if-not-is_node.ensures.only tt in
-    let w = c.width.ensures.within i.0 i.1.shallow in
-    let h = halved d x.depth c.if-self-height.false in
-    let e : x.depth + 1 ≡ suc x.depth = omega arith in
+    let i = c.in_ok-left.ensures.0 in
+    let w = c.width.ensures.within i.few i.isNode.shallow in
+    let h = halved d x.depth i.inner in
+    let e : c.in_ok-left.left.depth ≡ suc x.depth = ap (λ (y : Node). y.depth) c.in_ok-left.ensures.1 in
     let p : x.first + c.width.result / 2 ≡ x.first + width_of d (suc x.depth) = omega arith in
-    (record { few = i.0; isNode = i.1; inner = c.if-self-height.false }, ap₂ nodeAt e p)
+    (i, ap₂ nodeAt e p)
