@@ -1,5 +1,5 @@
 -- The writes of the encoders, one after another, give the layouts.
-use Rattle.std.proofs.Common.{◌≡◌, ℕ, List, set, refl}
+use Rattle.std.proofs.Common.{◌≡◌, ℕ, List, set}
 use borrow.Rule.Slice.PartMut.{put_mid}
 use Rattle.std.proofs.lemmas.List.{append-nil}
 use lib.Seq.{paste}

@@ -1,13 +1,13 @@
 -- The round trips of the two records.
-use Rattle.std.proofs.Common.{◌≡◌, ℕ, zero, suc, ◌+◌, ◌^◌, ◌<◌, ◌≤◌, Bool, true, false, cond, ◌&&◌, eqb, ltb, leb, List, [], ◌∷◌, ◌++◌, length, get_or, take, drop, replicate, Some, None, Option, sym, refl, ap, ◌∙◌, subst, inl, inr, ⊎_elim, arith}
-use Rattle.std.proofs.lemmas.List.{length-append, length-drop, length-take, length-take-le, take_at, drop_at, take_all, take-append-drop, drop-drop, drop_more, get_or-take, get_or-drop, get_or_past, append-nil}
-use Rattle.std.proofs.lemmas.Bool.{cases_Bool, cases_lt, and_parts, eq-eqb, le-leb, eqb-true, leb-true}
+use Rattle.std.proofs.Common.{◌≡◌, ℕ, zero, suc, ◌+◌, ◌^◌, ◌<◌, ◌≤◌, Bool, true, false, cond, eqb, leb, List, [], ◌∷◌, ◌++◌, length, get_or, take, drop, Some, None, sym, refl, ap, ◌∙◌, subst, ⊎_elim, arith}
+use Rattle.std.proofs.lemmas.List.{length-drop, length-take, length-take-le, take_at, drop_at, take_all, take-append-drop, drop-drop, drop_more, get_or-take, get_or-drop, get_or_past}
+use Rattle.std.proofs.lemmas.Bool.{cases_lt, and_parts, eq-eqb, le-leb, eqb-true, leb-true}
 use Rattle.octets.specs.Buffers.{zeros}
 use Rattle.octets.specs.Fields.{bytes_of, number_of}
 use Rattle.octets.proofs.Fielded.{length-bytes, number-bytes, bytes-number, number2, number4}
 use Rattle.layout.specs.declared.Head.{Head}
 use Rattle.layout.specs.declared.NodeFields.{NodeFields}
-use Rattle.layout.specs.Records.{part, allZero, isHead, headFields, encodeHead, head_of, isNode, isRecord, nodeFields, encodeNode, node_of, value_of}
+use Rattle.layout.specs.Records.{part, allZero, isHead, headFields, encodeHead, head_of, isRecord, nodeFields, encodeNode, node_of, value_of}
 use Rattle.layout.specs.Trips.{IsSlot, HeadFits, HeadTrip, NodeFits, NodeTrip}
 
 -- n zeros pass the test, and what passes it is zeros

@@ -2,6 +2,8 @@
 //!
 //! The layouts stand in specs/Records.antt. A tree has `levels` levels below its root; a node's value is key
 //! material and stays where it lies, in the last 32 bytes of its slot.
+#![tactic(auto)]
+
 ghost use Rattle.std.specs.Prelude.{◌≡◌, ℕ, ◌<◌, ◌≤◌, length};
 ghost use Rattle.layout.specs.Records.{allZero, isNode, encodeHead, head_of, encodeNode, node_of};
 ghost use Rattle.layout.specs.Trips.{HeadTrip, NodeTrip};

@@ -1,4 +1,6 @@
 //! Marks on the slots of a device, over a lent row of bytes. How a mark lies in the row is known here alone.
+#![tactic(auto)]
+
 ghost use Rattle.std.specs.Prelude.{◌≡◌, ℕ, ◌-◌, length};
 ghost use Rattle.marks.specs.Rows.{roomOf, isMarked, withMark, unmarked, first_of, MarkLaws};
 
@@ -6,7 +8,7 @@ ghost use Rattle.marks.specs.Rows.{roomOf, isMarked, withMark, unmarked, first_o
 pub fn room(slots: usize) -> usize
     ensures { result ≡ roomOf slots }
 {
-    slots
+    slots // a byte for each
 }
 
 /// Marks a slot. A slot that the row has no room for stays as it is.

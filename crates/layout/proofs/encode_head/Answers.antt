@@ -1,4 +1,4 @@
-use Rattle.std.proofs.Common.{◌≡◌, ap, ◌∙◌}
+use Rattle.std.proofs.Common.{ap, ◌∙◌}
 use Rattle.octets.specs.Buffers.{zeros}
 use Rattle.layout.proofs.Laid.{head-laid}
 use Rattle.layout.proofs.Trips.{head-trip}

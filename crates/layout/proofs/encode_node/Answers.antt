@@ -1,4 +1,4 @@
-use Rattle.std.proofs.Common.{◌≡◌, ap, ◌∙◌}
+use Rattle.std.proofs.Common.{ap, ◌∙◌}
 use Rattle.octets.specs.Buffers.{zeros}
 use Rattle.layout.proofs.Laid.{node-laid}
 use Rattle.layout.proofs.Trips.{node-trip}

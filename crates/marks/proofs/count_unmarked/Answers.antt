@@ -1,5 +1,5 @@
 use Rattle.std.proofs.Common.{◌≡◌, ◌+◌, ◌-◌, true, false, ◌∷◌, length, sym, ap, ◌∙◌, arith}
-use Rattle.marks.specs.Rows.{isMarked, unmarked, listed}
+use Rattle.marks.specs.Rows.{isMarked, unmarked}
 use Rattle.marks.proofs.Laws.{unmarked-more}
 use Rattle.marks.proofs.count_unmarked.Goals as goal
 use Rattle.marks.proofs.count_unmarked.Goals.{then-not-is_marked, else-not-is_marked}

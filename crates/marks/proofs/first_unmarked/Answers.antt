@@ -1,5 +1,5 @@
-use Rattle.std.proofs.Common.{◌≡◌, ◌+◌, ◌-◌, true, false, Some, sym, ap, ◌∙◌}
-use Rattle.marks.specs.Rows.{isMarked, unmarked, listed, first_of}
+use Rattle.std.proofs.Common.{◌≡◌, ◌+◌, ◌-◌, true, false, sym, ap, ◌∙◌}
+use Rattle.marks.specs.Rows.{isMarked, unmarked, first_of}
 use Rattle.marks.proofs.Laws.{unmarked-more}
 use Rattle.marks.proofs.first_unmarked.Goals as goal
 

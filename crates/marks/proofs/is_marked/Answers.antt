@@ -1,4 +1,4 @@
-use Rattle.std.proofs.Common.{◌≡◌, ℕ, false, not, eqb, ltb, sym, refl, ap, ◌∙◌}
+use Rattle.std.proofs.Common.{ℕ, not, eqb, sym, refl, ap, ◌∙◌}
 use Rattle.std.proofs.lemmas.List.{get_or_past}
 use Rattle.std.proofs.lemmas.Bool.{le-ltb}
 use Rattle.marks.specs.Rows.{isMarked}
