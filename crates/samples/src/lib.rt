@@ -1,7 +1,7 @@
 //! What the programs show alike: where they print, sample sessions with a root and a key name, and rows of bytes.
 #![tactic(auto)]
 
-ghost use Rattle.std.specs.Prelude.{◌≡◌, ◌↔◌, ◌≤◌, length, take, min, All, IsTrue, IsSome, IsOk, Option, Some, None, Ok, ◌⊎◌};
+ghost use Rattle.std.specs.Prelude.{◌≡◌, ◌↔◌, ◌≤◌, length, take, All, IsTrue, IsOk, Ok, ◌⊎◌};
 ghost use Rattle.session.specs.Records.{Fits, decodeOf};
 
 use anyhow::anyhow;
@@ -17,54 +17,58 @@ pub const KEY_NAME: [u8; 16] = *b"a sample's name.";
 /// More bytes than any ticket or record has.
 pub const ROOM: usize = 160;
 
-/// Where a program prints. What goes wrong is kept until the end, so that a server can be handed on first.
+/// Where a program prints. That something went wrong is kept until the end, so that a server can be handed on first.
 #[derive(Drop)]
 pub struct Show<'a> {
     rt: &'a HostRuntime,
-    /// the first thing that went wrong
-    pub failure: Option<&'static str>,
+    /// whether all has gone well so far
+    pub well: bool,
 }
 
 impl<'a> Show<'a> {
-    /// Nothing has gone wrong yet.
+    /// All has gone well so far.
     pub fn new(rt: &'a HostRuntime) -> Show<'a>
-        ensures { result.failure ≡ None }
+        ensures { IsTrue result.well }
     {
-        Show { rt, failure: None }
-    }
-
-    /// Notes that something went wrong where it does not hold. The first one is kept.
-    pub fn expect(&mut self, holds: bool, failure: &'static str)
-        ensures { IsSome self.old.failure → self.new.failure ≡ self.old.failure }
-    {
-        if !holds && self.failure.is_none() {
-            self.failure = Some(failure);
-        }
+        Show { rt, well: true }
     }
 
     /// Prints a part of a line.
     pub fn print<T: Display + Drop>(&mut self, part: T)
-        ensures { IsSome self.old.failure → self.new.failure ≡ self.old.failure }
+        ensures { IsTrue self.new.well → IsTrue self.old.well }
     {
-        let printed = self.rt.print(part).is_ok();
-        self.expect(printed, "a line could not be printed");
+        if self.rt.print(part).is_err() {
+            self.well = false;
+        }
     }
 
     /// Prints a line.
     pub fn println<T: Display + Drop>(&mut self, line: T)
-        ensures { IsSome self.old.failure → self.new.failure ≡ self.old.failure }
+        ensures { IsTrue self.new.well → IsTrue self.old.well }
     {
-        let printed = self.rt.println(line).is_ok();
-        self.expect(printed, "a line could not be printed");
+        if self.rt.println(line).is_err() {
+            self.well = false;
+        }
+    }
+
+    /// Prints what went wrong, where it did.
+    pub fn expect(&mut self, holds: bool, wrong: &str)
+        ensures { IsTrue self.new.well → IsTrue self.old.well × IsTrue holds }
+    {
+        if !holds {
+            self.println(wrong);
+            self.well = false;
+        }
     }
 
     /// What the program ends with: an error where something went wrong.
     pub fn end(&self) -> anyhow::Result<()>
-        ensures { IsOk result ↔ (self.now.failure ≡ None) }
+        ensures { IsOk result ↔ IsTrue self.now.well }
     {
-        match self.failure {
-            Some(failure) => Err(anyhow!("{failure}")),
-            None => Ok(()),
+        if self.well {
+            Ok(())
+        } else {
+            Err(anyhow!("something went wrong"))
         }
     }
 }
