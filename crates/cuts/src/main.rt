@@ -1,20 +1,24 @@
 //! Cuts the power at every raw write of a scenario with a ticket server, over three devices and with several tears, then at every raw
 //! write of the reopening too; reopens, and looks whether any ticket opens twice, or is lost without having been spent.
-mod cover;
+#![tactic(auto)]
+
 mod look;
 mod scene;
 
-use anyhow::anyhow;
-use cover::NUMBERS;
-use device::{ReadSlots, WriteSlots};
+use chachaseal::ChaChaSealer;
+use device::WriteSlots;
 use fault::{Call, Fault, Step};
+use generators::ChaChaGenerator;
 use image::ByteImage;
 use journal::Journal;
 use look::look_over;
 use memory::Memory;
 use refusal::Refusal;
-use scene::{Story, assemble, device_of, play, reopen};
+use samples::Show;
+use scene::{NUMBERS, Story, play, reopen};
 use sectors::SectorImage;
+use server::Cold;
+use serving::device_of;
 
 // The bytes of the row that the devices stand on: three sectors.
 const ROW: usize = 1536;
@@ -24,8 +28,10 @@ const BYTES: usize = 1280;
 
 const WHOLE: usize = 1152;
 
-// How many bytes of the cut write stand.
+// How many bytes of the cut write stand: over an image, and over the memory device.
 const TEARS: [usize; 5] = [0, 1, 3, 33, 64];
+
+const WHOLES: [usize; 2] = [0, 64];
 
 // More raw writes than the scenario or a reopening has.
 const MOST: usize = 1000;
@@ -42,6 +48,19 @@ enum Medium {
 struct Blow {
     after: usize,
     standing: usize,
+}
+
+const NEVER: Blow = Blow {
+    after: usize::MAX,
+    standing: 0,
+};
+
+// What is done on a device.
+#[derive(Clone, Copy)]
+enum Deed {
+    Play,
+    Reopen,
+    Look,
 }
 
 #[derive(Clone, Copy)]
@@ -66,21 +85,6 @@ struct Tally {
     // looks that found anything amiss
     wrong: u32,
 }
-
-// How a reopening ends.
-#[derive(Clone, Copy)]
-enum Reopened {
-    Running,
-    CutInRestart,
-    CutInSweep,
-    NoTree,
-    Wrong,
-}
-
-const NEVER: Blow = Blow {
-    after: usize::MAX,
-    standing: 0,
-};
 
 const NOTHING: Tally = Tally {
     in_make: 0,
@@ -113,6 +117,26 @@ impl Tally {
         }
     }
 
+    // A reopening was to be cut. Answers whether it came to the cut.
+    fn cut_again(&mut self, fault: Option<Fault>) -> bool {
+        match fault {
+            Some(
+                Fault {
+                    step: Some(Step::Restart),
+                    ..
+                },
+            ) => add(&mut self.in_restart),
+            Some(
+                Fault {
+                    step: Some(Step::Sweep),
+                    ..
+                },
+            ) => add(&mut self.in_sweep),
+            _ => return false,
+        }
+        true
+    }
+
     // What became of the tickets: by what was seen until the cut, and until the end.
     fn count_tickets(&mut self, early: &Story, late: &Story) {
         for n in 0..NUMBERS {
@@ -137,6 +161,44 @@ impl Tally {
         self.clean = self.clean.saturating_add(late.clean);
         self.count_tickets(early, late);
     }
+
+    // Every count with its name, as it is printed.
+    fn rows(&self) -> [(&'static str, u32); 14] {
+        [
+            ("cuts in making", self.in_make),
+            ("cuts in issuing", self.in_issue),
+            ("cuts in redeeming", self.in_redeem),
+            (
+                "further cuts in the restart of the reopening after one",
+                self.in_restart,
+            ),
+            (
+                "further cuts in the sweep of the reopening after one",
+                self.in_sweep,
+            ),
+            ("files looked at in the end", self.looks),
+            ("  not made", self.not_made),
+            ("  trees", self.looks.saturating_sub(self.not_made)),
+            (
+                "chains that are the cover, with zeros in every free slot, two for each tree",
+                self.clean,
+            ),
+            ("tickets given before the cut", self.given),
+            (
+                "  opened before it, and refused as spent after",
+                self.before,
+            ),
+            (
+                "  spent by the cut redemption, and refused after",
+                self.lost,
+            ),
+            (
+                "  unspent, opened after with their own state, then refused",
+                self.later,
+            ),
+            ("wrong", self.wrong),
+        ]
+    }
 }
 
 // Other bytes than a server writes.
@@ -146,113 +208,83 @@ fn lay_out(row: &mut [u8; ROW]) {
     }
 }
 
-fn play_on(medium: Medium, row: &mut [u8; ROW], blow: Blow, story: &mut Story) {
+fn act<D: WriteSlots>(device: D, deed: Deed, story: &mut Story) -> (D, Option<Fault>) {
+    match deed {
+        Deed::Play => {
+            let server = Cold::new(device, ChaChaGenerator, ChaChaSealer);
+            (device_of(play(server, story)), None)
+        }
+        Deed::Reopen => {
+            let (server, fault) = reopen(Cold::new(device, ChaChaGenerator, ChaChaSealer));
+            (device_of(server), fault)
+        }
+        Deed::Look => (look_over(device, story), None),
+    }
+}
+
+fn act_on(
+    medium: Medium,
+    row: &mut [u8; ROW],
+    blow: Blow,
+    deed: Deed,
+    story: &mut Story,
+) -> Option<Fault> {
     match medium {
         Medium::Bytes => {
             let mut image = ByteImage::new(&mut row[0..BYTES]);
             image.appoint(blow.after, blow.standing);
-            let _image = play(Journal::new(image), story).into_below();
+            let (journal, fault) = act(Journal::new(image), deed, story);
+            let _image = journal.into_below();
+            fault
         }
         Medium::Sectors => {
             let mut image = SectorImage::new(row);
             image.appoint(blow.after, blow.standing);
-            let _image = play(Journal::new(image), story).into_below();
+            let (journal, fault) = act(Journal::new(image), deed, story);
+            let _image = journal.into_below();
+            fault
         }
         Medium::Whole => {
             let mut memory = Memory::new(&mut row[0..WHOLE]);
             memory.appoint(blow.after, blow.standing);
-            let _memory = play(memory, story);
+            let (_memory, fault) = act(memory, deed, story);
+            fault
         }
     }
 }
 
-fn look_on(medium: Medium, row: &mut [u8; ROW], story: &mut Story) {
-    match medium {
-        Medium::Bytes => {
-            let image = ByteImage::new(&mut row[0..BYTES]);
-            let _image = look_over(Journal::new(image), story).into_below();
-        }
-        Medium::Sectors => {
-            let image = SectorImage::new(row);
-            let _image = look_over(Journal::new(image), story).into_below();
-        }
-        Medium::Whole => {
-            let _memory = look_over(Memory::new(&mut row[0..WHOLE]), story);
-        }
-    }
-}
-
-fn fault_says(fault: Fault) -> Reopened {
-    match (fault.refusal, fault.step) {
-        (Refusal::NoPower, Some(Step::Restart)) => Reopened::CutInRestart,
-        (Refusal::NoPower, Some(Step::Sweep)) => Reopened::CutInSweep,
-        (Refusal::BadHead, None) => Reopened::NoTree,
-        _ => Reopened::Wrong,
-    }
-}
-
-fn try_reopen<D: WriteSlots>(device: D) -> (D, Reopened) {
-    match reopen(assemble(device)) {
-        Ok(server) => (device_of(Ok(server)), Reopened::Running),
-        Err((server, fault)) => (device_of(Err(server)), fault_says(fault)),
-    }
-}
-
-fn reopen_on(medium: Medium, row: &mut [u8; ROW], blow: Blow) -> Reopened {
-    match medium {
-        Medium::Bytes => {
-            let mut image = ByteImage::new(&mut row[0..BYTES]);
-            image.appoint(blow.after, blow.standing);
-            let (journal, answer) = try_reopen(Journal::new(image));
-            let _image = journal.into_below();
-            answer
-        }
-        Medium::Sectors => {
-            let mut image = SectorImage::new(row);
-            image.appoint(blow.after, blow.standing);
-            let (journal, answer) = try_reopen(Journal::new(image));
-            let _image = journal.into_below();
-            answer
-        }
-        Medium::Whole => {
-            let mut memory = Memory::new(&mut row[0..WHOLE]);
-            memory.appoint(blow.after, blow.standing);
-            let (_memory, answer) = try_reopen(memory);
-            answer
-        }
-    }
-}
-
-// Reopens with no cut and looks at everything.
+// Reopens with no cut and looks at everything. Only a file that was never made may hold no tree.
 fn look_after(medium: Medium, row: &mut [u8; ROW], story: &Story, tally: &mut Tally) {
     let mut late = *story;
-    match reopen_on(medium, row, NEVER) {
-        Reopened::Running => look_on(medium, row, &mut late),
-        Reopened::NoTree => {
-            late.wrong = late.wrong || story.made;
+    match act_on(medium, row, NEVER, Deed::Reopen, &mut late) {
+        None => {
+            let _none = act_on(medium, row, NEVER, Deed::Look, &mut late);
+        }
+        Some(fault) => {
+            late.wrong = late.wrong || story.made || fault.refusal != Refusal::BadHead;
             add(&mut tally.not_made);
         }
-        _ => late.wrong = true,
     }
     tally.note(story, &late);
 }
 
-// Cuts the reopening, and reopens again. Answers whether the reopening came to that raw write.
-fn cut_again(
+// Cuts the reopening at each of its raw writes in turn, and looks each time.
+fn all_cuts_again(
     medium: Medium,
     row: &[u8; ROW],
-    blow: Blow,
+    standing: usize,
     story: &Story,
     tally: &mut Tally,
-) -> bool {
-    let mut row = *row;
-    match reopen_on(medium, &mut row, blow) {
-        Reopened::CutInRestart => add(&mut tally.in_restart),
-        Reopened::CutInSweep => add(&mut tally.in_sweep),
-        _ => return false,
+) {
+    for after in 0..MOST {
+        let mut row = *row;
+        let mut late = *story;
+        let blow = Blow { after, standing };
+        if !tally.cut_again(act_on(medium, &mut row, blow, Deed::Reopen, &mut late)) {
+            return;
+        }
+        look_after(medium, &mut row, story, tally);
     }
-    look_after(medium, &mut row, story, tally);
-    true
 }
 
 // Runs the scenario with a cut, then looks, with and without a further cut. Answers whether the scenario met its cut.
@@ -260,105 +292,52 @@ fn one_cut(medium: Medium, blow: Blow, tally: &mut Tally) -> bool {
     let mut row = [0; ROW];
     lay_out(&mut row);
     let mut story = Story::new();
-    play_on(medium, &mut row, blow, &mut story);
-    let Some(call) = story.cut else {
-        look_after(medium, &mut row, &story, tally);
-        return false;
-    };
-    tally.cut_in(call);
-    let standing = blow.standing;
-    for after in 0..MOST {
-        let again = Blow { after, standing };
-        if !cut_again(medium, &row, again, &story, tally) {
-            break;
-        }
+    let _none = act_on(medium, &mut row, blow, Deed::Play, &mut story);
+    if let Some(call) = story.cut {
+        tally.cut_in(call);
+        all_cuts_again(medium, &row, blow.standing, &story, tally);
     }
     look_after(medium, &mut row, &story, tally);
-    true
+    story.cut.is_some()
 }
 
-fn all_tears(medium: Medium, after: usize, tally: &mut Tally) -> bool {
+fn all_tears(medium: Medium, tears: &[usize], after: usize, tally: &mut Tally) -> bool {
     let mut met = false;
-    for standing in TEARS {
-        let fits = match medium {
-            Medium::Whole => standing == 0 || standing == 64,
-            _ => true,
+    for standing in tears {
+        let blow = Blow {
+            after,
+            standing: *standing,
         };
-        if fits && one_cut(medium, Blow { after, standing }, tally) {
-            met = true;
-        }
+        met = one_cut(medium, blow, tally) || met;
     }
     met
 }
 
-fn all_cuts(medium: Medium, tally: &mut Tally) {
+fn run(show: &mut Show, label: &str, medium: Medium, tears: &[usize]) {
+    let mut tally = NOTHING;
     for after in 0..MOST {
-        if !all_tears(medium, after, tally) {
+        if !all_tears(medium, tears, after, &mut tally) {
             break;
         }
     }
-}
-
-fn show_cuts(rt: &HostRuntime, tally: &Tally) -> anyhow::Result<()> {
-    let make = tally.in_make;
-    let issue = tally.in_issue;
-    let redeem = tally.in_redeem;
-    let restart = tally.in_restart;
-    let sweep = tally.in_sweep;
-    println!(rt;
-        "  cuts in the scenario: {make} in making, {issue} in issuing, {redeem} in redeeming"
-    )?;
-    println!(rt;
-        "  further cuts in the reopening after one: {restart} in its restart, {sweep} in its sweep"
-    )?;
-    Ok(())
-}
-
-fn show_files(rt: &HostRuntime, tally: &Tally) -> anyhow::Result<()> {
-    let looks = tally.looks;
-    let none = tally.not_made;
-    let clean = tally.clean;
-    let trees = looks.saturating_sub(none);
-    println!(rt; "  files looked at in the end: {looks}, not made: {none}, trees: {trees}")?;
-    println!(rt;
-        "  chains that are the cover, with zeros in every free slot, two for each tree: {clean}"
-    )?;
-    Ok(())
-}
-
-fn show_tickets(rt: &HostRuntime, tally: &Tally) -> anyhow::Result<()> {
-    let given = tally.given;
-    let before = tally.before;
-    let lost = tally.lost;
-    let later = tally.later;
-    println!(rt; "  tickets given before the cut: {given}")?;
-    println!(rt; "    opened before it, and refused as spent after: {before}")?;
-    println!(rt; "    spent by the cut redemption, and refused after: {lost}")?;
-    println!(rt; "    unspent, opened after with their own state, then refused: {later}")?;
-    Ok(())
-}
-
-fn run(rt: &HostRuntime, label: &str, medium: Medium) -> anyhow::Result<()> {
-    println!(rt; "{label}")?;
-    let mut tally = NOTHING;
-    all_cuts(medium, &mut tally);
-    show_cuts(rt, &tally)?;
-    show_files(rt, &tally)?;
-    show_tickets(rt, &tally)?;
-    let wrong = tally.wrong;
-    println!(rt; "  wrong: {wrong}")?;
-    if wrong > 0 {
-        return Err(anyhow!("a file is not what its past makes it"));
+    show.println(label);
+    for (name, count) in tally.rows() {
+        println!(show; "  {name}: {count}");
     }
-    Ok(())
+    show.expect(tally.wrong == 0, "a file is not what its past makes it");
 }
 
 fn main(rt: HostRuntime) -> anyhow::Result<()> {
-    run(&rt, "a journal over a byte image, 18 slots", Medium::Bytes)?;
+    let mut show = Show::new(&rt);
+    let bytes = "a journal over a byte image, 18 slots";
+    run(&mut show, bytes, Medium::Bytes, &TEARS);
+    let sectors = "a journal over a sector image, 22 slots";
+    run(&mut show, sectors, Medium::Sectors, &TEARS);
     run(
-        &rt,
-        "a journal over a sector image, 22 slots",
-        Medium::Sectors,
-    )?;
-    run(&rt, "a memory device, 18 slots", Medium::Whole)
+        &mut show,
+        "a memory device, 18 slots",
+        Medium::Whole,
+        &WHOLES,
+    );
+    show.end()
 }

@@ -1,16 +1,17 @@
 //! Times issue and redeem: on a tree just made and on one whose chain has some three hundred records, over memory and over a journal.
-use anyhow::anyhow;
-use octets::same_bytes;
+#![tactic(auto)]
+
 use chachaseal::ChaChaSealer;
-use device::{TearSlots, WriteSlots};
+use device::WriteSlots;
 use generators::ChaChaGenerator;
 use image::ByteImage;
 use journal::Journal;
 use memory::Memory;
+use octets::same_bytes;
+use samples::{Bytes, KEY_NAME, ROOT, Show, record_of, session};
 use scratch::Scratch;
-use sealer::OVERHEAD_LIMIT;
-use server::{Answered, Cold, Running};
-use session::{NAME_LIMIT, RECORD_LIMIT, SECRET_LENGTH, SessionState, Suite};
+use server::{Cold, Running};
+use serving::{Held, device_of, opened, split};
 use std::time::Instant;
 use std::{env, io};
 
@@ -19,71 +20,46 @@ const SLOTS: usize = 1024;
 
 const IMAGE: usize = 64 * SLOTS;
 
-// A ticket's key name and number stand before what is sealed.
-const TICKET_LIMIT: usize = 20 + RECORD_LIMIT + OVERHEAD_LIMIT;
-
 // The tickets issued to fill a tree: every second one is redeemed, and each of the others keeps a record of its own.
 const FILLING: usize = 600;
 
 // How many calls are timed in each case.
 const CALLS: usize = 200;
 
-const ROOT: [u8; 32] = *b"a root value of thirty-two bytes";
-
-const KEY_NAME: [u8; 16] = *b"a name for a key";
-
 type Up<D> = Running<D, ChaChaGenerator, ChaChaSealer>;
 
 type Down<D> = Cold<D, ChaChaGenerator, ChaChaSealer>;
+
+type Here<D> = Held<D, ChaChaGenerator, ChaChaSealer>;
 
 // What is lent to the calls, and the time that they took.
 #[derive(Drop)]
 struct Watch<'a> {
     rt: &'a HostRuntime,
+    show: Show<'a>,
     start: Instant,
-    // whether all went well: each call, the clock, each printed line
-    well: bool,
     // nanoseconds
     issuing: u64,
     redeeming: u64,
-    // what the last call wrote
-    written: usize,
-    record: [u8; RECORD_LIMIT],
-    ticket: [u8; TICKET_LIMIT],
-    state: [u8; RECORD_LIMIT],
+    // a record of the greatest length, and what issue and redeem wrote last
+    record: Bytes,
+    ticket: Bytes,
+    state: Bytes,
     marks: [u8; SLOTS],
     scratch: Scratch,
-}
-
-// A record of the greatest length.
-fn longest_record() -> [u8; RECORD_LIMIT] {
-    let state = SessionState {
-        suite: Suite::ChaCha20Poly1305Sha256,
-        lifetime: 86_400,
-        age_add: 7,
-        early_data_limit: 16_384,
-        issued_at: 1_700_000_000,
-        secret: [0x5a; SECRET_LENGTH],
-        name_length: NAME_LIMIT as u8,
-        name: [b'n'; NAME_LIMIT],
-    };
-    let mut record = [0; RECORD_LIMIT];
-    let _ = state.write(&mut record);
-    record
 }
 
 impl<'a> Watch<'a> {
     fn new(rt: &'a HostRuntime) -> io::Result<Watch<'a>> {
         Ok(Watch {
             rt,
+            show: Show::new(rt),
             start: Instant::now(rt)?,
-            well: true,
             issuing: 0,
             redeeming: 0,
-            written: 0,
-            record: longest_record(),
-            ticket: [0; TICKET_LIMIT],
-            state: [0; RECORD_LIMIT],
+            record: record_of(&session(&[b'n'; 32], 0x5a)),
+            ticket: Bytes::none(),
+            state: Bytes::none(),
             marks: [0; SLOTS],
             scratch: Scratch::new(),
         })
@@ -97,7 +73,7 @@ impl<'a> Watch<'a> {
                 .saturating_mul(1_000_000_000)
                 .saturating_add(u64::from(span.subsec_nanos())),
             Err(_) => {
-                self.well = false;
+                self.show.expect(false, "the clock failed");
                 0
             }
         }
@@ -111,91 +87,71 @@ impl<'a> Watch<'a> {
 
     // Prints a case's time for one call.
     fn tell(&mut self, tree: &str, device: &str) {
-        let issue = self.issuing / CALLS as u64;
-        let redeem = self.redeeming / CALLS as u64;
-        if println!(self.rt; "issue, {tree}, {device}: {issue}").is_err() {
-            self.well = false;
-        }
-        if println!(self.rt; "redeem, {tree}, {device}: {redeem}").is_err() {
-            self.well = false;
-        }
-    }
-
-    // Takes the server back from a call.
-    fn settle<D: WriteSlots>(
-        &mut self,
-        answer: Answered<D, ChaChaGenerator, ChaChaSealer>,
-    ) -> Result<Up<D>, Down<D>> {
-        match answer {
-            Answered::Done(server, numbers) => {
-                self.written = numbers.0;
-                Ok(server)
-            }
-            Answered::Refused(server, _) => Err(server.close()),
-            Answered::Cut(cold, _) => Err(cold),
+        for (call, spent) in [("issue", self.issuing), ("redeem", self.redeeming)] {
+            println!(self.show; "{call}, {tree}, {device}: {}", spent / CALLS as u64);
         }
     }
 }
 
-fn issued<D: WriteSlots>(watch: &mut Watch, server: Up<D>) -> Result<Up<D>, Down<D>> {
+fn issued<D: WriteSlots>(watch: &mut Watch, server: Up<D>) -> Here<D> {
     let from = watch.clock();
     let answer = server.issue(
-        &watch.record,
-        &mut watch.ticket,
+        watch.record.part(),
+        &mut watch.ticket.row,
         &mut watch.marks,
         &mut watch.scratch,
     );
     let span = watch.clock().saturating_sub(from);
     watch.issuing = watch.issuing.saturating_add(span);
-    watch.settle(answer)
+    let (server, numbers) = split(answer);
+    watch.show.expect(numbers.is_ok(), "a ticket is not issued");
+    watch.ticket.length = numbers.map_or(0, |numbers| numbers.0);
+    server
 }
 
 // Redeems the ticket issued last.
-fn redeemed<D: WriteSlots>(watch: &mut Watch, server: Up<D>) -> Result<Up<D>, Down<D>> {
-    let sent = watch.written.min(TICKET_LIMIT);
-    let ticket = watch.ticket;
+fn redeemed<D: WriteSlots>(watch: &mut Watch, server: Up<D>) -> Here<D> {
     let from = watch.clock();
     let answer = server.redeem(
-        &ticket[0..sent],
-        &mut watch.state,
+        watch.ticket.part(),
+        &mut watch.state.row,
         &mut watch.marks,
         &mut watch.scratch,
     );
     let span = watch.clock().saturating_sub(from);
     watch.redeeming = watch.redeeming.saturating_add(span);
-    if !same_bytes(&watch.state, &watch.record) {
-        watch.well = false;
-    }
-    watch.settle(answer)
+    let own = same_bytes(&watch.state.row, &watch.record.row);
+    watch.show.expect(own, "a ticket does not give its state");
+    let (server, _numbers) = split(answer);
+    server
 }
 
-fn made<D: WriteSlots>(watch: &mut Watch, cold: Down<D>) -> Result<Up<D>, Down<D>> {
-    match cold.make(&ROOT, &KEY_NAME, &mut watch.scratch) {
-        Ok(server) => Ok(server),
-        Err((cold, _)) => Err(cold),
-    }
+fn made<D: WriteSlots>(watch: &mut Watch, device: D) -> Here<D> {
+    let cold = Cold::new(device, ChaChaGenerator, ChaChaSealer);
+    let (server, fault) = opened(cold.make(&ROOT, &KEY_NAME, &mut watch.scratch));
+    watch.show.expect(fault.is_none(), "a tree is not made");
+    server
 }
 
 // The first ticket of a tree.
-fn first_ticket<D: WriteSlots>(watch: &mut Watch, cold: Down<D>) -> Result<Down<D>, Down<D>> {
-    let server = made(watch, cold)?;
+fn first_ticket<D: WriteSlots>(watch: &mut Watch, device: D) -> Here<D> {
+    let server = made(watch, device)?;
     let server = issued(watch, server)?;
-    let server = redeemed(watch, server)?;
-    Ok(server.close())
+    redeemed(watch, server)
 }
 
 // Each ticket is the first of its tree.
-fn fresh<D: WriteSlots>(watch: &mut Watch, cold: Down<D>) -> Result<Down<D>, Down<D>> {
-    let mut cold = cold;
+fn fresh<D: WriteSlots>(watch: &mut Watch, device: D) -> D {
+    let mut device = device;
     for _ in 0..CALLS {
-        cold = first_ticket(watch, cold)?;
+        device = device_of(first_ticket(watch, device));
     }
-    Ok(cold)
+    device
 }
 
 // A tree with every second number spent.
-fn filled<D: WriteSlots>(watch: &mut Watch, cold: Down<D>) -> Result<Up<D>, Down<D>> {
-    let mut server = made(watch, cold)?;
+fn filled<D: WriteSlots>(watch: &mut Watch, device: D) -> Here<D> {
+    let mut server = made(watch, device)?;
     for k in 0..FILLING {
         server = issued(watch, server)?;
         if k % 2 == 0 {
@@ -206,50 +162,23 @@ fn filled<D: WriteSlots>(watch: &mut Watch, cold: Down<D>) -> Result<Up<D>, Down
 }
 
 // Each ticket is issued and redeemed behind a long chain.
-fn full<D: WriteSlots>(watch: &mut Watch, cold: Down<D>) -> Result<Down<D>, Down<D>> {
-    let mut server = filled(watch, cold)?;
+fn full<D: WriteSlots>(watch: &mut Watch, device: D) -> Here<D> {
+    let mut server = filled(watch, device)?;
     watch.reset();
     for _ in 0..CALLS {
         server = issued(watch, server)?;
         server = redeemed(watch, server)?;
     }
-    Ok(server.close())
+    Ok(server)
 }
 
-// Hands the server on, and notes whether the case ran to its end.
-fn noted<D: WriteSlots>(watch: &mut Watch, ran: Result<Down<D>, Down<D>>) -> Down<D> {
-    match ran {
-        Ok(cold) => cold,
-        Err(cold) => {
-            watch.well = false;
-            cold
-        }
-    }
-}
-
-fn timed<D: WriteSlots>(watch: &mut Watch, device: &str, cold: Down<D>) -> Down<D> {
+fn timed<D: WriteSlots>(watch: &mut Watch, name: &str, device: D) -> D {
     watch.reset();
-    let ran = fresh(watch, cold);
-    let cold = noted(watch, ran);
-    watch.tell("fresh tree", device);
-    let ran = full(watch, cold);
-    let cold = noted(watch, ran);
-    watch.tell("300 records", device);
-    cold
-}
-
-fn over_memory(watch: &mut Watch) {
-    let mut row = [0; IMAGE];
-    let cold = Cold::new(Memory::new(&mut row), ChaChaGenerator, ChaChaSealer);
-    let (_memory, _generator, _sealer) = timed(watch, "memory", cold).into_parts();
-}
-
-fn over_journal(watch: &mut Watch) {
-    let mut row = [0; IMAGE];
-    let journal = Journal::new(ByteImage::new(&mut row));
-    let cold = Cold::new(journal, ChaChaGenerator, ChaChaSealer);
-    let (journal, _generator, _sealer) = timed(watch, "journal", cold).into_parts();
-    let _image = journal.into_below();
+    let device = fresh(watch, device);
+    watch.tell("fresh tree", name);
+    let device = device_of(full(watch, device));
+    watch.tell("300 records", name);
+    device
 }
 
 // Whether the word `time` is among the arguments.
@@ -268,10 +197,9 @@ fn main(rt: HostRuntime) -> anyhow::Result<()> {
         return Ok(());
     }
     let mut watch = Watch::new(&rt)?;
-    over_memory(&mut watch);
-    over_journal(&mut watch);
-    if !watch.well {
-        return Err(anyhow!("a call, the clock or the printing failed"));
-    }
-    Ok(())
+    let mut row = [0; IMAGE];
+    let _memory = timed(&mut watch, "memory", Memory::new(&mut row));
+    let journal = Journal::new(ByteImage::new(&mut row));
+    let _image = timed(&mut watch, "journal", journal).into_below();
+    watch.show.end()
 }

@@ -1,0 +1,63 @@
+//! What the programs that run a server share: its answers taken apart, and the records of its file.
+#![tactic(auto)]
+
+ghost use Rattle.std.specs.Prelude.{◌≡◌};
+ghost use Rattle.serving.specs.Held.{parts_of, opening_of, device_in, record_in};
+ghost use Rattle.tree.specs.Nodes.{treeLevels};
+
+use device::{ReadSlots, WriteSlots};
+use fault::Fault;
+use generator::Generator;
+use layout::{NodeFields, decode_node};
+use sealer::Sealer;
+use server::{Answered, Cold, Running};
+use tree::LEVELS;
+
+/// A server that runs, or a cold one.
+pub type Held<D, G, S> = Result<Running<D, G, S>, Cold<D, G, S>>;
+
+/// The server that issue or redeem hands back, and the two numbers or the fault.
+pub fn split<D, G, S>(answered: Answered<D, G, S>) -> (Held<D, G, S>, Result<(usize, u32), Fault>)
+    ensures { result ≡ parts_of answered }
+{
+    match answered {
+        Answered::Done(server, numbers) => (Ok(server), Ok(numbers)),
+        Answered::Refused(server, fault) => (Ok(server), Err(fault)),
+        Answered::Cut(server, fault) => (Err(server), Err(fault)),
+    }
+}
+
+/// The server that make or reopen hands back, and the fault where it is declined.
+pub fn opened<D, G, S>(
+    answer: Result<Running<D, G, S>, (Cold<D, G, S>, Fault)>,
+) -> (Held<D, G, S>, Option<Fault>)
+    ensures { result ≡ opening_of answer }
+{
+    match answer {
+        Ok(server) => (Ok(server), None),
+        Err((server, fault)) => (Err(server), Some(fault)),
+    }
+}
+
+/// The device of a server, which is closed where it runs.
+pub fn device_of<D: WriteSlots, G: Generator + Copy, S: Sealer + Copy>(server: Held<D, G, S>) -> D
+    ensures { result ≡ device_in server }
+{
+    let cold = match server {
+        Ok(server) => server.close(),
+        Err(server) => server,
+    };
+    let (device, _, _) = cold.into_parts();
+    device
+}
+
+/// The record that a slot holds; none where the slot holds no record, or cannot be read.
+pub fn record_at<D: ReadSlots>(device: &D, slot: u16) -> Option<NodeFields>
+    ensures { result ≡ record_in treeLevels (D.slots device.now) (D.powered device.now) slot }
+{
+    let mut bytes = [0; 64];
+    match device.read(slot as usize, &mut bytes) {
+        Ok(()) => decode_node(LEVELS, &bytes),
+        Err(_) => None,
+    }
+}
