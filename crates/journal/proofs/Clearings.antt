@@ -1,5 +1,5 @@
 -- Clearing changes nothing that is shown, wherever it is cut.
-use Rattle.std.proofs.Common.{◌≡◌, ℕ, ◌+◌, ◌<◌, ◌≤◌, cond, List, [], ◌∷◌, length, set, Some, None, Option, refl, arith, sym, ap, ◌∙◌, subst, ⊎_elim, get_or-set_same, set-set}
+use Rattle.std.proofs.Common.{◌≡◌, ℕ, ◌+◌, ◌<◌, ◌≤◌, cond, List, [], ◌∷◌, ◌++◌, length, set, Some, None, Option, refl, arith, sym, ap, ◌∙◌, subst, ⊎_elim, get_or-set_same, set-set}
 use Rattle.std.proofs.Math.Seq.{set_out}
 use Rattle.std.proofs.lemmas.Bool.{cases_lt, lt-ltb, le-ltb}
 use Rattle.device.specs.Effects.{Slot, Slots, blank}
@@ -14,11 +14,11 @@ clear_none s = refl
 
 pub clear_in : (i : ℕ) (s : Slots) → i < length (shown s) → clearWritesOf (Some i) s ≡ writeOf (i + 2) (copyIn s) ∷ writeOf 0 blank ∷ []
 unfolding clearWritesOf
-clear_in i s h = ap (λ v. cond v (writeOf (i + 2) (copyIn s) ∷ writeOf 0 blank ∷ []) (writeOf 0 blank ∷ [])) (lt-ltb i (length (placesIn s)) (omega (arith, length-placesIn s, length-shown s)))
+clear_in i s h = ap (λ v. cond v (writeOf (i + 2) (copyIn s) ∷ []) [] ++ (writeOf 0 blank ∷ [])) (lt-ltb i (length (shown s)) h)
 
 pub clear_out : (i : ℕ) (s : Slots) → length (shown s) ≤ i → clearWritesOf (Some i) s ≡ writeOf 0 blank ∷ []
 unfolding clearWritesOf
-clear_out i s h = ap (λ v. cond v (writeOf (i + 2) (copyIn s) ∷ writeOf 0 blank ∷ []) (writeOf 0 blank ∷ [])) (le-ltb i (length (placesIn s)) (omega (arith, length-placesIn s, length-shown s)))
+clear_out i s h = ap (λ v. cond v (writeOf (i + 2) (copyIn s) ∷ []) [] ++ (writeOf 0 blank ∷ [])) (le-ltb i (length (shown s)) h)
 
 pub ruleset clearing = (clear_none, clear_in, clear_out)
 

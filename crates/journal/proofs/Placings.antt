@@ -12,14 +12,12 @@ abbrev rest : ℕ → List ℕ
 rest i = i / 256 ∷ i % 256 ∷ replicate 61 0
 
 module _ (s : Slots) (i : ℕ) (b : Slot) (within : i < length (shown s)) (low : pendingIn (markIn s) ≡ None) where
-  new : Slots
-  new = set (shown s) i b
-
   at_first : Parts s (markIn s) (shown s) (copyIn s)
   at_first =
       let p = parts_of s (omega (arith, length-shown s)) in
       record { mark = p.mark; places = sym (shown_low p low); copy = p.copy; long = p.long }
 
+  -- the slots below once x is put in the copy, in the mark, in the mark again and in the place of slot i
   copied : (x : Slot) → Parts (set s 1 x) (markIn s) (shown s) x
   copied x = copy_written at_first x
 

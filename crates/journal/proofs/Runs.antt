@@ -8,7 +8,7 @@ use Rattle.device.specs.declared.DeviceFault.{DeviceFault}
 use Rattle.device.specs.declared.DeviceFault.TheVariants.{NoSuchSlot, NoPower}
 use Rattle.device.specs.Effects.{Slot, Slots, Answer, Tearing, torn}
 use Rattle.journal.specs.Layout.{shown}
-use Rattle.journal.specs.Writes.{Write, clearWrites, placeWrites, slotWrites, Within, stood, CutShort, Ran, WritingBelow}
+use Rattle.journal.specs.Writes.{Write, clearWrites, placeWrites, Within, stood, CutShort, Ran, WritingBelow}
 
 pub stood-append : (s : Slots) (ws vs : List Write) → stood s (ws ++ vs) ≡ stood (stood s ws) vs
 stood-append s [] vs = refl
@@ -43,16 +43,15 @@ module _ {X : Type 0} (f : X → Write) (s : Slots) (xs : List X) (k : ℕ) (d :
       rw (← around) (cut_short s u (map f (take k xs)) (map f (drop (suc k) xs)) (f (get_or xs k d)) on e t on' (rw around w) at o c)
 
 -- the first writes done, and then the others
-pub ran_then : (s u : Slots) (ws vs : List Write) (r : Answer) (t : Slots) (q : Bool) → u ≡ stood s ws → Ran u vs r t q → Ran s (ws ++ vs) r t q
-ran_then s u ws vs (Ok _) t q a d = (d.0 ∙ ap (λ y. stood y vs) a ∙ sym (stood-append s ws vs), d.1)
-ran_then s u ws vs (Err e) t q a d =
+ran_then : (s : Slots) (ws vs : List Write) (r : Answer) (t : Slots) (q : Bool) → Ran (stood s ws) vs r t q → Ran s (ws ++ vs) r t q
+ran_then s ws vs (Ok _) t q d = rw stood-append d
+ran_then s ws vs (Err e) t q d =
     let c = d.1 in
-    let at : stood s (ws ++ c.front) ≡ stood u c.front = stood-append s ws c.front ∙ ap (λ y. stood y c.front) (sym a) in
     let are = ap (λ x. ws ++ x) c.are ∙ sym (append_assoc ws c.front (c.cut ∷ c.back)) in
-    (d.0, record { front = ws ++ c.front; cut = c.cut; back = c.back; are = are; standing = c.standing; few = c.few; slots = rw at c.slots }, d.2)
+    (d.0, record { front = ws ++ c.front; cut = c.cut; back = c.back; are = are; standing = c.standing; few = c.few; slots = rw stood-append c.slots }, d.2)
 
 -- a failure among the first
-pub cut_more : (s : Slots) (ws vs : List Write) (t : Slots) → CutShort s ws t → CutShort s (ws ++ vs) t
+cut_more : (s : Slots) (ws vs : List Write) (t : Slots) → CutShort s ws t → CutShort s (ws ++ vs) t
 cut_more s ws vs t c =
     let are = ap (λ x. x ++ vs) c.are ∙ append_assoc c.front (c.cut ∷ c.back) vs in
     record { front = c.front; cut = c.cut; back = c.back ++ vs; are = are; standing = c.standing; few = c.few; slots = c.slots }
@@ -90,8 +89,9 @@ Within-append n [] vs a b = b
 Within-append n (w ∷ ws) vs a b = (a.0, Within-append n ws vs a.1 b)
 
 -- clearing, and then placing
-pub write_done : (s : Slots) (i : ℕ) (b : Slot) (r : Answer) (t : Slots) (q : Bool) → Ran (stood s (clearWrites s)) (placeWrites i b) r t q → Ran s (slotWrites s i b) r t q
-write_done s i b r t q d = ran_then s (stood s (clearWrites s)) (clearWrites s) (placeWrites i b) r t q refl d
+pub write_done : (s : Slots) (on : Bool) (i : ℕ) (b : Slot) (r : Answer) (t : Slots) (q : Bool) → i < length (shown s) → on ≡ true → Ran (stood s (clearWrites s)) (placeWrites i b) r t q → WritingBelow s on i b r t q
+write_done s on i b (Ok u) t q h o d = (h, o, ran_then s (clearWrites s) (placeWrites i b) (Ok u) t q d)
+write_done s on i b (Err e) t q h o d = inr (h, o, ran_then s (clearWrites s) (placeWrites i b) (Err e) t q d)
 
 pub write_cut : (s : Slots) (on : Bool) (i : ℕ) (b : Slot) (r : Answer) (t : Slots) (q : Bool) → is_err r ≡ true → i < length (shown s) → on ≡ true → Ran s (clearWrites s) r t q → WritingBelow s on i b r t q
 write_cut s on i b (Ok _) t q e h o d = absurd cc

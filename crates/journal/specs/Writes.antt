@@ -2,7 +2,7 @@
 use Rattle.std.specs.Prelude.{◌≡◌, ℕ, ◌+◌, ◌<◌, ◌≤◌, Bool, true, false, cond, ◌⊎◌, List, [], ◌∷◌, ◌++◌, length, Some, None, Ok, Err, Option, nat_lt, slice_index_or, slice_set}
 use Rattle.device.specs.declared.DeviceFault.TheVariants.{NoPower}
 use Rattle.device.specs.Effects.{Slot, Slots, Answer, Declined, slotSize, blank, torn}
-use Rattle.journal.specs.Layout.{markIn, copyIn, placesIn, mark_of, pendingIn, shown}
+use Rattle.journal.specs.Layout.{markIn, copyIn, mark_of, pendingIn, shown}
 
 -- to which slot below, and which bytes
 pub record Write : Type 0 where
@@ -16,7 +16,7 @@ writeOf i b = record { slot = i; bytes = b }
 -- the copy goes to the slot i that it stands for, if the journal has it; then zeros to the mark
 unfoldable pub clearWritesOf : Option ℕ → Slots → List Write
 clearWritesOf None s = []
-clearWritesOf (Some i) s = cond (nat_lt i (length (placesIn s))) (writeOf (i + 2) (copyIn s) ∷ writeOf 0 blank ∷ []) (writeOf 0 blank ∷ [])
+clearWritesOf (Some i) s = cond (nat_lt i (length (shown s))) (writeOf (i + 2) (copyIn s) ∷ []) [] ++ (writeOf 0 blank ∷ [])
 
 -- those that clear a flag: none where the copy stands for no slot
 abbrev pub clearWrites : Slots → List Write
