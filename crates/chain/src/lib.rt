@@ -27,8 +27,15 @@ use refusal::Refusal;
 use steps::read_at;
 use tree::{LEVELS, Node};
 
-// How many numbers the tree has.
-const LEAVES: u32 = 1 << LEVELS;
+/// How many numbers the tree has.
+pub const LEAVES: u32 = 1 << LEVELS;
+
+/// The number of numbers.
+pub fn leaves_stand() -> u8
+    ensures { LEAVES ≡ 2 ^ treeLevels }
+{
+    0
+}
 
 /// A record of the chain, with the slots of its neighbours.
 #[derive(Clone, Copy)]

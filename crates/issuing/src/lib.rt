@@ -1,7 +1,10 @@
 //! Issuing a ticket, over a device lent for the call.
+//!
+//! This is the inside of crate `server`: `issue_on` works on a bare device and does not know a cold server from a running
+//! one. Go through `Running::issue`.
 #![tactic(auto)]
 
-ghost use Rattle.std.specs.Prelude.{◌≡◌, ℕ, ◌+◌, ◌-◌, ◌<◌, ◌≤◌, Bool, true, List, [], ◌++◌, length, replicate, slice_index_or};
+ghost use Rattle.std.specs.Prelude.{◌≡◌, ℕ, ◌+◌, ◌-◌, ◌^◌, ◌<◌, ◌≤◌, Bool, true, List, [], ◌++◌, length, replicate, slice_index_or};
 ghost use Rattle.octets.specs.Buffers.{zeros, filled};
 ghost use Rattle.session.specs.Limits.{mostLength};
 ghost use Rattle.layout.specs.Records.{value_of};
@@ -13,7 +16,7 @@ ghost use Rattle.scratch.specs.Clean.{Clean};
 ghost use Rattle.tree.specs.Nodes.{treeLevels};
 ghost use Rattle.issuing.specs.Ends.{Issuable, IssueEnds, issueEntry};
 
-use chain::{Found, read_file};
+use chain::{Found, LEAVES, read_file};
 use device::{ReadSlots, WriteSlots};
 use fault::{Halt, Step};
 use generator::{Generator, descend};
@@ -21,18 +24,22 @@ use layout::Head;
 use marks::room;
 use octets::{clear, put_u32};
 use refusal::Refusal;
-use rules::slot_count;
+use rules::{HEADING, slot_count};
 use scratch::Scratch;
-use sealer::{Sealer, heading};
+use sealer::{OVERHEAD_LIMIT, PLAIN_LIMIT, Sealer, heading};
 use session::is_record;
 use steps::{read_at, write_at};
 use tree::LEVELS;
 
 /// The bytes that a ticket's buffer must have: the heading, the longest record and the largest overhead.
-pub const TICKET_MOST: usize = 139;
+pub const TICKET_MOST: usize = HEADING + PLAIN_LIMIT + OVERHEAD_LIMIT;
 
-// How many numbers the tree has.
-const LEAVES: u32 = 1 << LEVELS;
+/// The length of the longest ticket.
+pub fn limits_stand() -> u8
+    ensures { TICKET_MOST ≡ ticketMost }
+{
+    0
+}
 
 // The value that a record holds.
 fn copy_value(slot: &[u8; 64], value: &mut [u8; 32])
@@ -58,7 +65,7 @@ fn load_value<D: ReadSlots>(
 
 // The head with one number more issued than `issued`, in the lent slot.
 fn next_head<D: ReadSlots>(d: &D, issued: u32, slot: &mut [u8; 64]) -> Result<(), Halt>
-    requires { (0 < length (D.slots d.now)) × ((D.powered d.now ≡ true) × (issued < 65536)) }
+    requires { (0 < length (D.slots d.now)) × ((D.powered d.now ≡ true) × (issued < 2 ^ treeLevels)) }
     ensures { (result ≡ Ok tt) × (slot.new ≡ recounted (issued + 1) (slice_index_or (D.slots d.now) 0 [])) }
 {
     read_at(d, 0, slot)?;
@@ -80,12 +87,12 @@ fn seal_ticket<S: Sealer>(
     ensures is { ticket.new ≡ filled (headingOf name.now number ++ S.Sealer.sealing s.now key.now (headingOf name.now number) plain.now) (length ticket.old) }
     ensures long { result ≡ length (headingOf name.now number ++ S.Sealer.sealing s.now key.now (headingOf name.now number) plain.now) }
 {
-    let mut head = [0; 20];
+    let mut head = [0; HEADING];
     heading(name, number, &mut head);
     let end = ticket.len();
-    ticket[0..20].copy_from_slice(&head);
-    match s.seal(key, &head, plain, &mut ticket[20..end], pad) {
-        Ok(length) => 20 + length,
+    ticket[0..HEADING].copy_from_slice(&head);
+    match s.seal(key, &head, plain, &mut ticket[HEADING..end], pad) {
+        Ok(length) => HEADING + length,
         Err(_) => 0,
     }
 }
@@ -166,7 +173,7 @@ fn issue_into<D: WriteSlots, G: Generator, S: Sealer>(
     }
 }
 
-/// Issues the next number's ticket for a state record.
+/// Issues the next number's ticket for a state record. For the server alone: it works on a bare device.
 pub fn issue_on<D: WriteSlots, G: Generator, S: Sealer>(
     d: &mut D,
     g: &G,

@@ -1,5 +1,8 @@
 //! Redeeming a ticket, over a device lent for the call.
 //!
+//! This is the inside of crate `server`: `redeem_on` works on a bare device and does not know a cold server from a running
+//! one. Go through `Running::redeem`.
+//!
 //! A state is given only once its number is spent on the device: all refusals come before the first write, and the answer after the last.
 #![tactic(auto)]
 
@@ -27,17 +30,12 @@ use marks::room;
 use octets::{clear, get_u32, same_bytes};
 use puncturing::puncture;
 use refusal::Refusal;
-use rules::slot_count;
+use rules::{HEADING, NAME, slot_count};
 use scratch::Scratch;
 use sealer::Sealer;
 use session::{RECORD_LEAST, RECORD_LIMIT, is_record};
 use steps::read_at;
 use tree::LEVELS;
-
-// The bytes of a key name, and of a ticket's heading: the name and the number.
-const NAME: usize = 16;
-
-const HEADING: usize = 20;
 
 // Whether buffers of so many bytes, for a state and for the marks, will do.
 fn is_roomy<D: ReadSlots>(d: &D, state: usize, marks: usize) -> bool
@@ -255,7 +253,7 @@ fn redeem_in<D: WriteSlots, G: Generator, S: Sealer>(
 
 /// Redeems a ticket: punctures the tree at its number, and only then gives its state, at the start of the buffer and with
 /// zeros after it. Answers how long the state is and how often the generator was called. A refused call leaves zeros in the
-/// buffer, and every call leaves zeros in the marks and the scratch.
+/// buffer, and every call leaves zeros in the marks and the scratch. For the server alone: it works on a bare device.
 pub fn redeem_on<D: WriteSlots, G: Generator, S: Sealer>(
     d: &mut D,
     g: &G,

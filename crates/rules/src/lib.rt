@@ -3,16 +3,35 @@
 
 ghost use Rattle.std.specs.Prelude.{◌≡◌, ℕ, ◌<◌, length};
 ghost use Rattle.tree.specs.Nodes.{treeLevels};
-ghost use Rattle.rules.specs.Calls.{Fitting};
+ghost use Rattle.rules.specs.Kits.{nameLength, headingLength};
+ghost use Rattle.rules.specs.Calls.{slotsLeast, slotsMost, Fitting};
 
 use device::ReadSlots;
 use fault::Halt;
 use refusal::Refusal;
+use tree::LEVELS;
 
-// The fewest and the most slots that a device may have: head, root and room for a puncture, and no more than marks serve.
-const SLOTS_LEAST: usize = 18;
+/// The bytes of a key name.
+pub const NAME: usize = 16;
 
-const SLOTS_MOST: usize = 1024;
+/// The bytes of a ticket's heading: the key name, and the number in four bytes.
+pub const HEADING: usize = NAME + 4;
+
+/// The fewest slots that a device may have: the head, the root's record, and room for a puncture.
+pub const SLOTS_LEAST: usize = LEVELS as usize + 2;
+
+/// The most slots that a device may have.
+pub const SLOTS_MOST: usize = 1024;
+
+/// The lengths of a ticket's parts, and the slots that a device may have.
+pub fn limits_stand() -> u8
+    ensures name { NAME ≡ nameLength }
+    ensures heading { HEADING ≡ headingLength }
+    ensures least { SLOTS_LEAST ≡ slotsLeast treeLevels }
+    ensures most { SLOTS_MOST ≡ slotsMost }
+{
+    0
+}
 
 /// The number of slots, where a tree fits a device of so many.
 pub fn slot_count<D: ReadSlots>(d: &D) -> Result<u16, Halt>

@@ -1,5 +1,8 @@
 use Rattle.chain.proofs.Frees.{free-are, free-count}
 use Rattle.chain.proofs.count_free.Goals as goal
 
-pub returns : goal.returns
-returns c = record { is = c.count_unmarked.ensures; free = free-are; sum = free-count }
+pub returns-clause-free : goal.returns-clause-free
+returns-clause-free c = free-are
+
+pub returns-clause-sum : goal.returns-clause-sum
+returns-clause-sum c = free-count

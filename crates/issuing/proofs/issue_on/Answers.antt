@@ -5,19 +5,14 @@ use Rattle.issuing.proofs.Issued.{kept-err, kept-ok, with-buffer}
 use Rattle.issuing.proofs.issue_on.Goals as goal
 use Rattle.issuing.proofs.issue_on.Goals.{then-is_err, else-is_err}
 
-pub returns : goal.returns
-returns g c =
+pub returns-clause-did : goal.returns-clause-did
+returns-clause-did g c =
     let r = c.issue_into-issued.result in
     let room : ℕ = length c.args.ticket.now in
     let out : List ℕ = c.issue_into-issued.new.ticket in
     let same : length out ≡ room = omega arith in
-    let also : length c.issue_into-issued.new.marks ≡ length c.args.marks.now = omega arith in
     let e : c.if-is_err.ticket ≡ kept r room out = elim c.if-is_err.branch [
       | then-is_err w ↦ w.ticket-is ∙ w.clear.ensures ∙ ap zeros same ∙ sym (kept-err r room out (sym c.is_err.ensures.value ∙ w.if-is_err.true))
       | else-is_err w ↦ w.ticket-is ∙ sym (kept-ok r room out (sym c.is_err.ensures.value ∙ w.if-is_err.false))
     ] in
-    record {
-      did = with-buffer e c.issue_into-issued.ensures;
-      marks = c.clear-2.ensures ∙ ap zeros also;
-      clean = c.wipe.ensures;
-    }
+    with-buffer e c.issue_into-issued.ensures

@@ -5,8 +5,8 @@ use Rattle.redeeming.proofs.Spends.{cleared, kept-err, kept-ok}
 use Rattle.redeeming.proofs.redeem_on.Goals as goal
 use Rattle.redeeming.proofs.redeem_on.Goals.{in-Err, in_default}
 
-pub returns : goal.returns
-returns g c =
+pub returns-clause-did : goal.returns-clause-did
+returns-clause-did g c =
     let r = c.redeem_in-answer.result in
     let out = c.redeem_in-answer.new.state in
     let room = length c.args.state.now in
@@ -15,8 +15,4 @@ returns g c =
       | in-Err w ↦ kept-err r _ room out c.match-answer.state w.in-Err.is (w.state-is ∙ w.clear.ensures ∙ ap zeros l)
       | in_default w ↦ kept-ok r room out c.match-answer.state w.in_default.not-Err w.state-is
     ] in
-    record {
-      did = cleared out e c.redeem_in-answer.ensures;
-      marks = c.clear-2.ensures ∙ ap zeros c.redeem_in-answer.auto.marks;
-      clean = c.wipe.ensures;
-    }
+    cleared out e c.redeem_in-answer.ensures
