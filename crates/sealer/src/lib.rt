@@ -73,12 +73,10 @@ pub trait Sealer {
 }
 
 /// The limits of plains and of overheads.
-pub fn limits_stand() -> u8
+pub fn limits_stand()
     ensures plain { PLAIN_LIMIT ≡ plainLimit }
     ensures overhead { OVERHEAD_LIMIT ≡ overheadLimit }
-{
-    0
-}
+{}
 
 /// Writes the heading of a ticket: the key's name, and the ticket's number.
 #[tactic(auto, using(crate::proofs::Parts::number_after_name))]

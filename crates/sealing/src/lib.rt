@@ -162,8 +162,6 @@ pub fn open<S: Scheme>(
 }
 
 /// How long a sealing is, and that sealings of different plains differ, for every keystream and tag.
-pub fn sealings_stand() -> u8
+pub fn sealings_stand()
     ensures { SealingLaws }
-{
-    0
-}
+{}

@@ -5,7 +5,7 @@
 #![tactic(auto)]
 
 ghost use Rattle.std.specs.Prelude.{◌≡◌, ◌+◌, ◌≤◌, length, take, IfOk, Some, Ok, Decides};
-ghost use Rattle.std.proofs.Math.Seq.{paste};
+ghost use Rattle.octets.specs.Buffers.{pasted};
 ghost use Rattle.session.specs.Limits.{secretLimit, secretLength, nameLimit, lifetimeLimit, leastLength, mostLength};
 ghost use Rattle.session.specs.Suites.{suiteNumber, suiteOf};
 ghost use Rattle.session.specs.Records.{lifetimeFits, blank, fieldsFit, Fits, Typed, encodeOf, laidOut, recordSuite, isRecord, IsRecord, read_of, decodeOf, written_of, bufferOf};
@@ -112,7 +112,7 @@ fn is_blank(part: &[u8]) -> bool
 // Copies a part into a row at a place.
 fn put_part(row: &mut [u8], at: usize, part: &[u8])
     requires { at + length part.now ≤ length row.old }
-    ensures { row.new ≡ paste row.old at part.now (length part.now) }
+    ensures { row.new ≡ pasted row.old at part.now (length part.now) }
 {
     row[at..at + part.len()].copy_from_slice(part);
 }
@@ -239,20 +239,16 @@ impl SessionState {
 }
 
 /// The lengths of a record and of its parts, and the longest lifetime.
-pub fn limits_stand() -> u8
+pub fn limits_stand()
     ensures least { RECORD_LEAST ≡ leastLength }
     ensures most { RECORD_LIMIT ≡ mostLength }
     ensures secret { SECRET_LENGTH ≡ secretLimit }
     ensures name { NAME_LIMIT ≡ nameLimit }
     ensures lifetime { LIFETIME_LIMIT ≡ lifetimeLimit }
-{
-    0
-}
+{}
 
 /// States and records determine each other, and the lengths of a record.
-pub fn records_stand() -> u8
+pub fn records_stand()
     ensures laws { RecordLaws }
     ensures examples { LifetimeExamples }
-{
-    0
-}
+{}
