@@ -83,7 +83,11 @@ fn first_pair(report: &mut Report) {
     stand.bad_files(report, "Damaged heads", &HEADS);
     stand.reopen(report, "a file of zeros", &[0; ROW], 4, 0);
     other_pairs(report, &stand);
-    stand.bad_files(report, "Damaged records of the chain", &LINKS);
+    stand.bad_files(
+        report,
+        "Damaged records of the chain, whose first three are in slots 17, 16 and 15",
+        &LINKS,
+    );
     let title = "Numbers that are not issued and lie under no record";
     stand.bad_files(report, title, &UNCOVERED);
     stand.series(report, Bed::Memory, &stand.file, &RESTORED);
