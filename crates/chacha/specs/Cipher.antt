@@ -13,21 +13,21 @@ mixed a b d k s =
     slice_set t d (rotl k (bit_xor (slice_index t d) (slice_index t a)))
 
 -- QUARTERROUND(a, b, c, d): its four lines, the first innermost
-unfoldable pub quarterRound : ℕ → ℕ → ℕ → ℕ → List ℕ → List ℕ
-quarterRound a b c d s = mixed c d b 7 (mixed a b d 8 (mixed c d b 12 (mixed a b d 16 s)))
+unfoldable pub quarter_round : ℕ → ℕ → ℕ → ℕ → List ℕ → List ℕ
+quarter_round a b c d s = mixed c d b 7 (mixed a b d 8 (mixed c d b 12 (mixed a b d 16 s)))
 
 -- the four quarter rounds on the columns of the state
-unfoldable pub columnRounds : List ℕ → List ℕ
-columnRounds s = quarterRound 3 7 11 15 (quarterRound 2 6 10 14 (quarterRound 1 5 9 13 (quarterRound 0 4 8 12 s)))
+unfoldable pub column_rounds : List ℕ → List ℕ
+column_rounds s = quarter_round 3 7 11 15 (quarter_round 2 6 10 14 (quarter_round 1 5 9 13 (quarter_round 0 4 8 12 s)))
 
 -- the four quarter rounds on its diagonals
-unfoldable pub diagonalRounds : List ℕ → List ℕ
-diagonalRounds s = quarterRound 3 4 9 14 (quarterRound 2 7 8 13 (quarterRound 1 6 11 12 (quarterRound 0 5 10 15 s)))
+unfoldable pub diagonal_rounds : List ℕ → List ℕ
+diagonal_rounds s = quarter_round 3 4 9 14 (quarter_round 2 7 8 13 (quarter_round 1 6 11 12 (quarter_round 0 5 10 15 s)))
 
 -- n column rounds and n diagonal rounds, in turn
-unfoldable pub doubleRounds : ℕ → List ℕ → List ℕ
-doubleRounds zero s = s
-doubleRounds (suc n) s = diagonalRounds (columnRounds (doubleRounds n s))
+unfoldable pub double_rounds : ℕ → List ℕ → List ℕ
+double_rounds zero s = s
+double_rounds (suc n) s = diagonal_rounds (column_rounds (double_rounds n s))
 
 -- word i of a row of bytes, read little-endian
 unfoldable pub word_of : List ℕ → ℕ → ℕ
@@ -56,4 +56,4 @@ serialized w = (w % 256) ∷ (w / 256 % 256) ∷ (w / 65536 % 256) ∷ (w / 1677
 unfoldable pub block_of : List ℕ → ℕ → List ℕ → List ℕ
 block_of key counter nonce =
     let s : List ℕ = start_of key counter nonce in
-    flat_map serialized (added (doubleRounds 10 s) s)
+    flat_map serialized (added (double_rounds 10 s) s)

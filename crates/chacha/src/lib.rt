@@ -3,7 +3,7 @@
 
 ghost use Rattle.std.specs.Prelude.{◌≡◌, ◌+◌, ◌*◌, ◌^◌, ◌<◌, ◌≤◌, length, take, drop};
 ghost use Rattle.std.specs.List.{flat_map};
-ghost use Rattle.chacha.specs.Cipher.{mixed, quarterRound, columnRounds, diagonalRounds, word_of, start_of, doubleRounds, added, serialized, block_of};
+ghost use Rattle.chacha.specs.Cipher.{mixed, quarter_round, column_rounds, diagonal_rounds, word_of, start_of, double_rounds, added, serialized, block_of};
 ghost use Rattle.chacha.specs.Laws.{BlockLaws};
 
 // The sixteen bytes that the start block begins with.
@@ -38,7 +38,7 @@ pub fn halves(
 
 // A start block after the twenty rounds.
 fn worked(first: &[u32; 16]) -> [u32; 16]
-    ensures { result ≡ doubleRounds 10 first.now }
+    ensures { result ≡ double_rounds 10 first.now }
 {
     let mut s = *first;
     for _turn in 0..10usize {
@@ -94,7 +94,7 @@ fn word(b: &[u8], i: usize) -> u32
 
 // A column round and then a diagonal round.
 fn double_round(s: &mut [u32; 16])
-    ensures { s.new ≡ diagonalRounds (columnRounds s.old) }
+    ensures { s.new ≡ diagonal_rounds (column_rounds s.old) }
 {
     quarter_round(s, 0, 4, 8, 12);
     quarter_round(s, 1, 5, 9, 13);
@@ -108,7 +108,7 @@ fn double_round(s: &mut [u32; 16])
 
 fn quarter_round(s: &mut [u32; 16], a: usize, b: usize, c: usize, d: usize)
     requires { (a < 16) × ((b < 16) × ((c < 16) × (d < 16))) }
-    ensures { s.new ≡ quarterRound a b c d s.old }
+    ensures { s.new ≡ quarter_round a b c d s.old }
 {
     mix(s, a, b, d, 16);
     mix(s, c, d, b, 12);

@@ -3,15 +3,15 @@ use Rattle.std.specs.Prelude.{◌≡◌, ℕ, ◌+◌, List, ◌++◌, length}
 use Rattle.std.proofs.Common.{arith}
 use Rattle.std.proofs.lemmas.List.{length-take-le}
 use Rattle.octets.specs.Buffers.{zeros}
-use Rattle.chacha.proofs.Blocks.{block-long}
+use Rattle.chacha.proofs.Blocks.{block_long}
 use Rattle.hmac.specs.Mac.{hmac}
-use Rattle.hmac.proofs.Macs.{mac-long}
-use Rattle.chachaseal.specs.Meaning.{streamBlock, tag_of}
+use Rattle.hmac.proofs.Macs.{mac_long}
+use Rattle.chachaseal.specs.Meaning.{stream_block, tag_of}
 
-pub stream-long : (key : List ℕ) (index : ℕ) → length (streamBlock key index) ≡ 64
-unfolding streamBlock
-stream-long key index = block-long key (1 + index) (zeros 12)
+pub stream_long : (key : List ℕ) (index : ℕ) → length (stream_block key index) ≡ 64
+unfolding stream_block
+stream_long key index = block_long key (1 + index) (zeros 12)
 
-pub tag-long : (key heading bytes : List ℕ) → length (tag_of key heading bytes) ≡ 16
+pub tag_long : (key heading bytes : List ℕ) → length (tag_of key heading bytes) ≡ 16
 unfolding tag_of
-tag-long key heading bytes = length-take-le 16 (hmac key (heading ++ bytes)) (omega (arith, mac-long key (heading ++ bytes)))
+tag_long key heading bytes = length-take-le 16 (hmac key (heading ++ bytes)) (omega (arith, mac_long key (heading ++ bytes)))

@@ -3,16 +3,16 @@ use Rattle.std.specs.Prelude.{ℕ, ◌+◌, List, ◌++◌, take}
 use Rattle.octets.specs.Buffers.{zeros}
 use Rattle.chacha.specs.Cipher.{block_of}
 use Rattle.hmac.specs.Mac.{hmac}
-use Rattle.sealing.specs.Covering.{sealingOf}
+use Rattle.sealing.specs.Covering.{sealing_of}
 
 -- the keystream: its block i is the ChaCha20 block at the counter i + 1, where the nonce is zero
-unfoldable pub streamBlock : List ℕ → ℕ → List ℕ
-streamBlock key i = block_of key (1 + i) (zeros 12)
+unfoldable pub stream_block : List ℕ → ℕ → List ℕ
+stream_block key i = block_of key (1 + i) (zeros 12)
 
 -- the tag: the first sixteen bytes of the HMAC of the heading and the covered plain
 unfoldable pub tag_of : List ℕ → List ℕ → List ℕ → List ℕ
 tag_of key heading bytes = take 16 (hmac key (heading ++ bytes))
 
 -- the sealing of a plain: the plain under the keystream, then the tag
-abbrev pub sealedBytes : List ℕ → List ℕ → List ℕ → List ℕ
-sealedBytes key heading plain = sealingOf (streamBlock key) 64 (tag_of key heading) plain
+abbrev pub sealed_bytes : List ℕ → List ℕ → List ℕ → List ℕ
+sealed_bytes key heading plain = sealing_of (stream_block key) 64 (tag_of key heading) plain

@@ -3,10 +3,10 @@
 
 ghost use Rattle.std.specs.Prelude.{◌≡◌, take};
 ghost use Rattle.octets.specs.Buffers.{filled};
-ghost use Rattle.chachaseal.specs.Meaning.{streamBlock, tag_of, sealedBytes};
-ghost use Rattle.chachaseal.specs.Lengths.{stream-long, tag-long};
+ghost use Rattle.chachaseal.specs.Meaning.{stream_block, tag_of, sealed_bytes};
+ghost use Rattle.chachaseal.specs.Lengths.{stream_long, tag_long};
 ghost use Rattle.std.proofs.Common.{rules};
-ghost use Rattle.sealing.proofs.Covers.{sealing-long};
+ghost use Rattle.sealing.proofs.Covers.{sealing_long};
 ghost use Rattle.sealing.proofs.Covers;
 
 use hmac::Hmac;
@@ -36,7 +36,7 @@ fn keep_tag(out: &mut [u8; 32])
 }
 
 impl Scheme for ChaChaSealer {
-    ghost block = { λ _ key i. streamBlock key i };
+    ghost block = { λ _ key i. stream_block key i };
 
     ghost size = { λ _. 64 };
 
@@ -50,9 +50,9 @@ impl Scheme for ChaChaSealer {
 
     ghost limited = { Prim.search rules };
 
-    ghost whole = { λ s key index. stream-long key index };
+    ghost whole = { λ s key index. stream_long key index };
 
-    ghost tagged = { λ s key heading bytes. tag-long key heading bytes };
+    ghost tagged = { λ s key heading bytes. tag_long key heading bytes };
 
     fn size(&self) -> usize {
         BLOCK_SIZE
@@ -62,7 +62,7 @@ impl Scheme for ChaChaSealer {
         TAG_SIZE
     }
 
-    #[tactic(auto, using(session::proofs::Rows::filled_whole), unfolding(crate::specs::Meaning::streamBlock))]
+    #[tactic(auto, using(session::proofs::Rows::filled_whole), unfolding(crate::specs::Meaning::stream_block))]
     fn block(&self, key: &[u8; 32], index: u16, pad: &mut [u8; 64]) {
         chacha::block(key, 1 + u32::from(index), &[0; 12], pad);
     }
@@ -85,7 +85,7 @@ impl Scheme for ChaChaSealer {
 }
 
 impl Sealer for ChaChaSealer {
-    ghost sealing = { λ _ key heading plain. sealedBytes key heading plain };
+    ghost sealing = { λ _ key heading plain. sealed_bytes key heading plain };
 
     ghost overhead = { λ _. 16 };
 
@@ -95,9 +95,9 @@ impl Sealer for ChaChaSealer {
 
     ghost limited = { Prim.search rules };
 
-    ghost long = { λ s key heading plain k h p. sealing-long (streamBlock key) 64 (tag_of key heading) 16 (tag-long key heading) plain };
+    ghost long = { λ s key heading plain k h p. sealing_long (stream_block key) 64 (tag_of key heading) 16 (tag_long key heading) plain };
 
-    ghost apart = { λ s key heading plain other k h p q same. Covers.apart (streamBlock key) 64 (tag_of key heading) 16 (tag-long key heading) plain other same };
+    ghost apart = { λ s key heading plain other k h p q same. Covers.apart (stream_block key) 64 (tag_of key heading) 16 (tag_long key heading) plain other same };
 
     fn number(&self) -> u8 {
         NUMBER

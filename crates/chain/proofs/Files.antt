@@ -5,127 +5,127 @@ use Rattle.device.specs.Effects.{Slots}
 use Rattle.layout.specs.declared.Head.{Head}
 use Rattle.layout.specs.Records.{head_of}
 use Rattle.tree.specs.Cover.{Ordered, Reached}
-use Rattle.chain.specs.Reading.{Link, Walk, Walk.broken, Walk.walked, File, File.badHead, File.uncovered, File.sound, walk, lowestFrom, judged, headed, fileOf}
-use Rattle.chain.specs.Sound.{nodesOf, Lowest, SoundFile, Bare}
-use Rattle.chain.proofs.Chains.{to-chained, from-chained, chained-order, chained-nodes, chained-slots, chained-distinct}
-use Rattle.chain.proofs.Lowness.{lowest-up, lowest-covered, lowest-bare}
+use Rattle.chain.specs.Reading.{Link, Walk, Walk.broken, Walk.walked, File, File.bad_head, File.uncovered, File.sound, walk, lowest_from, judged, headed, file_of}
+use Rattle.chain.specs.Sound.{nodes_of, Lowest, SoundFile, Bare}
+use Rattle.chain.proofs.Chains.{to_chained, from_chained, chained_order, chained_nodes, chained_slots, chained_distinct}
+use Rattle.chain.proofs.Lowness.{lowest_up, lowest_covered, lowest_bare}
 
 -- ---- which way the tests went
-cond-sound : (b : Bool) (m : ℕ) (k h : Head) (ys xs : List Link) → cond b (uncovered m) (sound k ys) ≡ sound h xs → (b ≡ false) × (k ≡ h) × (ys ≡ xs)
-cond-sound true m k h ys xs e = let z : ◌≡◌ {A = ℕ} 0 1 = cc in absurd (omega arith)
-cond-sound false m k h ys xs e = (refl, cc, cc)
+cond_sound : (b : Bool) (m : ℕ) (k h : Head) (ys xs : List Link) → cond b (uncovered m) (sound k ys) ≡ sound h xs → (b ≡ false) × (k ≡ h) × (ys ≡ xs)
+cond_sound true m k h ys xs e = let z : ◌≡◌ {A = ℕ} 0 1 = cc in absurd (omega arith)
+cond_sound false m k h ys xs e = (refl, cc, cc)
 
-cond-bare : (b : Bool) (m n : ℕ) (k : Head) (ys : List Link) → cond b (uncovered m) (sound k ys) ≡ uncovered n → (b ≡ true) × (m ≡ n)
-cond-bare true m n k ys e = (refl, cc)
-cond-bare false m n k ys e = let z : ◌≡◌ {A = ℕ} 0 1 = cc in absurd (omega arith)
+cond_bare : (b : Bool) (m n : ℕ) (k : Head) (ys : List Link) → cond b (uncovered m) (sound k ys) ≡ uncovered n → (b ≡ true) × (m ≡ n)
+cond_bare true m n k ys e = (refl, cc)
+cond_bare false m n k ys e = let z : ◌≡◌ {A = ℕ} 0 1 = cc in absurd (omega arith)
 
-head-sound : (b : Bool) (v : File) (h : Head) (xs : List Link) → cond b v badHead ≡ sound h xs → (b ≡ true) × (v ≡ sound h xs)
-head-sound true v h xs e = (refl, e)
-head-sound false v h xs e = let z : ◌≡◌ {A = ℕ} 0 1 = cc in absurd (omega arith)
+head_sound : (b : Bool) (v : File) (h : Head) (xs : List Link) → cond b v bad_head ≡ sound h xs → (b ≡ true) × (v ≡ sound h xs)
+head_sound true v h xs e = (refl, e)
+head_sound false v h xs e = let z : ◌≡◌ {A = ℕ} 0 1 = cc in absurd (omega arith)
 
-head-bare : (b : Bool) (v : File) (n : ℕ) → cond b v badHead ≡ uncovered n → v ≡ uncovered n
-head-bare true v n e = e
-head-bare false v n e = let z : ◌≡◌ {A = ℕ} 0 1 = cc in absurd (omega arith)
+head_bare : (b : Bool) (v : File) (n : ℕ) → cond b v bad_head ≡ uncovered n → v ≡ uncovered n
+head_bare true v n e = e
+head_bare false v n e = let z : ◌≡◌ {A = ℕ} 0 1 = cc in absurd (omega arith)
 
 record Judged (d : ℕ) (k h : Head) (w : Walk) (xs : List Link) : Type 0 where
   same : k ≡ h
   walks : w ≡ walked xs
-  full : 2 ^ d ≤ lowestFrom d k.issued xs
+  full : 2 ^ d ≤ lowest_from d k.issued xs
 
-judged-sound : (d : ℕ) (k h : Head) (w : Walk) (xs : List Link) → judged d k w ≡ sound h xs → Judged d k h w xs
-judged-sound d k h (broken i) xs e = let z : ◌≡◌ {A = ℕ} 0 1 = cc in absurd (omega arith)
-judged-sound d k h (walked ys) xs e =
-    let p = cond-sound (ltb (lowestFrom d k.issued ys) (2 ^ d)) (lowestFrom d k.issued ys) k h ys xs e in
+judged_sound : (d : ℕ) (k h : Head) (w : Walk) (xs : List Link) → judged d k w ≡ sound h xs → Judged d k h w xs
+judged_sound d k h (broken i) xs e = let z : ◌≡◌ {A = ℕ} 0 1 = cc in absurd (omega arith)
+judged_sound d k h (walked ys) xs e =
+    let p = cond_sound (ltb (lowest_from d k.issued ys) (2 ^ d)) (lowest_from d k.issued ys) k h ys xs e in
     record {
       same = p.1;
       walks = ap walked p.2;
-      full = subst (λ (zs : List Link). 2 ^ d ≤ lowestFrom d k.issued zs) p.2 (ltb-false _ _ p.0);
+      full = subst (λ (zs : List Link). 2 ^ d ≤ lowest_from d k.issued zs) p.2 (ltb-false _ _ p.0);
     }
 
 record Lacks (d : ℕ) (k : Head) (w : Walk) (n : ℕ) : Type 0 where
   links : List Link
   walks : w ≡ walked links
-  lowest : lowestFrom d k.issued links ≡ n
-  number : lowestFrom d k.issued links < 2 ^ d
+  lowest : lowest_from d k.issued links ≡ n
+  number : lowest_from d k.issued links < 2 ^ d
 
-judged-bare : (d : ℕ) (k : Head) (w : Walk) (n : ℕ) → judged d k w ≡ uncovered n → Lacks d k w n
-judged-bare d k (broken i) n e = let z : ◌≡◌ {A = ℕ} 0 1 = cc in absurd (omega arith)
-judged-bare d k (walked ys) n e =
-    let p = cond-bare (ltb (lowestFrom d k.issued ys) (2 ^ d)) (lowestFrom d k.issued ys) n k ys e in
+judged_bare : (d : ℕ) (k : Head) (w : Walk) (n : ℕ) → judged d k w ≡ uncovered n → Lacks d k w n
+judged_bare d k (broken i) n e = let z : ◌≡◌ {A = ℕ} 0 1 = cc in absurd (omega arith)
+judged_bare d k (walked ys) n e =
+    let p = cond_bare (ltb (lowest_from d k.issued ys) (2 ^ d)) (lowest_from d k.issued ys) n k ys e in
     record { links = ys; walks = refl; lowest = p.1; number = ltb-true _ _ p.0 }
 
 -- ---- a sound file
 module _ (d g w : ℕ) (s : Slots) where
   made : (h : Head) (xs : List Link) → head_of d (get_or s 0 []) ≡ Some h → h.generator ≡ g → h.sealer ≡ w →
-      walk d (suc (2 ^ d)) s 0 None 0 h.first ≡ walked xs → 2 ^ d ≤ lowestFrom d h.issued xs → SoundFile d g w s h xs
+      walk d (suc (2 ^ d)) s 0 None 0 h.first ≡ walked xs → 2 ^ d ≤ lowest_from d h.issued xs → SoundFile d g w s h xs
   made h xs e a b k f =
-      let c = to-chained d s (suc (2 ^ d)) 0 None 0 h.first xs k in
+      let c = to_chained d s (suc (2 ^ d)) 0 None 0 h.first xs k in
       record {
         head = e;
         generator = a;
         sealer = b;
         chained = c;
-        nodes = chained-nodes d s xs 0 None h.first c;
-        ordered = chained-order d s xs 0 None h.first c;
-        slots = chained-slots d s xs 0 None h.first c;
-        distinct = chained-distinct d s xs 0 None h.first c;
-        unissued = λ n l u. lowest-covered d h.issued xs n l (omega arith);
+        nodes = chained_nodes d s xs 0 None h.first c;
+        ordered = chained_order d s xs 0 None h.first c;
+        slots = chained_slots d s xs 0 None h.first c;
+        distinct = chained_distinct d s xs 0 None h.first c;
+        unissued = λ n l u. lowest_covered d h.issued xs n l (omega arith);
       }
 
-  from-head : (o : Option Head) (h : Head) (xs : List Link) → head_of d (get_or s 0 []) ≡ o → headed d g w s o ≡ sound h xs → SoundFile d g w s h xs
-  from-head None h xs q e = let z : ◌≡◌ {A = ℕ} 0 1 = cc in absurd (omega arith)
-  from-head (Some k) h xs q e =
-      let p = head-sound (eqb k.generator g && eqb k.sealer w) (judged d k (walk d (suc (2 ^ d)) s 0 None 0 k.first)) h xs e in
+  from_head : (o : Option Head) (h : Head) (xs : List Link) → head_of d (get_or s 0 []) ≡ o → headed d g w s o ≡ sound h xs → SoundFile d g w s h xs
+  from_head None h xs q e = let z : ◌≡◌ {A = ℕ} 0 1 = cc in absurd (omega arith)
+  from_head (Some k) h xs q e =
+      let p = head_sound (eqb k.generator g && eqb k.sealer w) (judged d k (walk d (suc (2 ^ d)) s 0 None 0 k.first)) h xs e in
       let t = and_parts (eqb k.generator g) _ p.0 in
-      let j = judged-sound d k h (walk d (suc (2 ^ d)) s 0 None 0 k.first) xs p.1 in
+      let j = judged_sound d k h (walk d (suc (2 ^ d)) s 0 None 0 k.first) xs p.1 in
       let P : Head → Type 0 = λ z. SoundFile d g w s z xs in
       subst P j.same (made k xs q (eqb-true _ _ t.0) (eqb-true _ _ t.1) j.walks j.full)
 
-  pub to-sound : (h : Head) (xs : List Link) → fileOf d g w s ≡ sound h xs → SoundFile d g w s h xs
-  unfolding fileOf
-  to-sound h xs e = from-head (head_of d (get_or s 0 [])) h xs refl e
+  pub to_sound : (h : Head) (xs : List Link) → file_of d g w s ≡ sound h xs → SoundFile d g w s h xs
+  unfolding file_of
+  to_sound h xs e = from_head (head_of d (get_or s 0 [])) h xs refl e
 
   -- with every number that is not issued under a record, none is lacking
-  filled : (h : Head) (xs : List Link) → Ordered d (nodesOf xs) → ((n : ℕ) → h.issued ≤ n → n < 2 ^ d → Reached d (nodesOf xs) n) → 2 ^ d ≤ lowestFrom d h.issued xs
+  filled : (h : Head) (xs : List Link) → Ordered d (nodes_of xs) → ((n : ℕ) → h.issued ≤ n → n < 2 ^ d → Reached d (nodes_of xs) n) → 2 ^ d ≤ lowest_from d h.issued xs
   filled h xs o f = ⊎_elim
-      (λ (l : lowestFrom d h.issued xs < 2 ^ d).
-      let r = f (lowestFrom d h.issued xs) (lowest-up d h.issued xs) l in
-      absurd (lowest-bare d h.issued xs o r.0 r.1 r.2))
-      (λ (l : 2 ^ d ≤ lowestFrom d h.issued xs). l)
-      (cases_lt (lowestFrom d h.issued xs) (2 ^ d))
+      (λ (l : lowest_from d h.issued xs < 2 ^ d).
+      let r = f (lowest_from d h.issued xs) (lowest_up d h.issued xs) l in
+      absurd (lowest_bare d h.issued xs o r.0 r.1 r.2))
+      (λ (l : 2 ^ d ≤ lowest_from d h.issued xs). l)
+      (cases_lt (lowest_from d h.issued xs) (2 ^ d))
 
-  pub of-sound : (h : Head) (xs : List Link) → SoundFile d g w s h xs → fileOf d g w s ≡ sound h xs
-  unfolding fileOf
-  of-sound h xs f =
+  pub of_sound : (h : Head) (xs : List Link) → SoundFile d g w s h xs → file_of d g w s ≡ sound h xs
+  unfolding file_of
+  of_sound h xs f =
       let a : eqb h.generator g ≡ true = eq-eqb _ _ f.generator in
       let b : eqb h.sealer w ≡ true = eq-eqb _ _ f.sealer in
-      let k : walk d (suc (2 ^ d)) s 0 None 0 h.first ≡ walked xs = from-chained d s (suc (2 ^ d)) 0 None 0 h.first xs (omega arith) (omega arith) f.chained in
-      let l : ltb (lowestFrom d h.issued xs) (2 ^ d) ≡ false = le-ltb _ _ (filled h xs f.ordered f.unissued) in
+      let k : walk d (suc (2 ^ d)) s 0 None 0 h.first ≡ walked xs = from_chained d s (suc (2 ^ d)) 0 None 0 h.first xs (omega arith) (omega arith) f.chained in
+      let l : ltb (lowest_from d h.issued xs) (2 ^ d) ≡ false = le-ltb _ _ (filled h xs f.ordered f.unissued) in
       ap (headed d g w s) f.head ∙ rw (a, b, k, l)
 
   -- ---- a file that lacks a number
-  bare-head : (o : Option Head) (n : ℕ) → head_of d (get_or s 0 []) ≡ o → headed d g w s o ≡ uncovered n → Bare d s n
-  bare-head None n q e = let z : ◌≡◌ {A = ℕ} 0 1 = cc in absurd (omega arith)
-  bare-head (Some k) n q e =
-      let p = head-bare (eqb k.generator g && eqb k.sealer w) (judged d k (walk d (suc (2 ^ d)) s 0 None 0 k.first)) n e in
-      let j = judged-bare d k (walk d (suc (2 ^ d)) s 0 None 0 k.first) n p in
+  bare_head : (o : Option Head) (n : ℕ) → head_of d (get_or s 0 []) ≡ o → headed d g w s o ≡ uncovered n → Bare d s n
+  bare_head None n q e = let z : ◌≡◌ {A = ℕ} 0 1 = cc in absurd (omega arith)
+  bare_head (Some k) n q e =
+      let p = head_bare (eqb k.generator g && eqb k.sealer w) (judged d k (walk d (suc (2 ^ d)) s 0 None 0 k.first)) n e in
+      let j = judged_bare d k (walk d (suc (2 ^ d)) s 0 None 0 k.first) n p in
       let xs = j.links in
-      let c = to-chained d s (suc (2 ^ d)) 0 None 0 k.first xs j.walks in
-      let o = chained-order d s xs 0 None k.first c in
-      let P : ℕ → Type 0 = λ m. Lowest d k.issued (nodesOf xs) m in
+      let c = to_chained d s (suc (2 ^ d)) 0 None 0 k.first xs j.walks in
+      let o = chained_order d s xs 0 None k.first c in
+      let P : ℕ → Type 0 = λ m. Lowest d k.issued (nodes_of xs) m in
       record {
         head = k;
         links = xs;
         read = q;
         chained = c;
         lowest = subst P j.lowest (record {
-          from = lowest-up d k.issued xs;
+          from = lowest_up d k.issued xs;
           number = j.number;
-          bare = λ r. lowest-bare d k.issued xs o r.0 r.1 r.2;
-          below = λ m l u. lowest-covered d k.issued xs m l u;
+          bare = λ r. lowest_bare d k.issued xs o r.0 r.1 r.2;
+          below = λ m l u. lowest_covered d k.issued xs m l u;
         });
       }
 
-  pub to-bare : (n : ℕ) → fileOf d g w s ≡ uncovered n → Bare d s n
-  unfolding fileOf
-  to-bare n e = bare-head (head_of d (get_or s 0 [])) n refl e
+  pub to_bare : (n : ℕ) → file_of d g w s ≡ uncovered n → Bare d s n
+  unfolding file_of
+  to_bare n e = bare_head (head_of d (get_or s 0 [])) n refl e

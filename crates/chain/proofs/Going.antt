@@ -6,18 +6,18 @@ use Rattle.fault.specs.Faults.{placed}
 use Rattle.refusal.specs.declared.Refusal.TheVariants.{BadLink}
 use Rattle.device.specs.Effects.{Slots}
 use Rattle.layout.specs.declared.NodeFields.{NodeFields}
-use Rattle.layout.specs.Records.{nodeFields, node_of}
-use Rattle.marks.specs.Rows.{withMark}
+use Rattle.layout.specs.Records.{node_fields, node_of}
+use Rattle.marks.specs.Rows.{with_mark}
 use Rattle.tree.specs.declared.Node.{Node}
-use Rattle.tree.specs.Nodes.{nodeAt, IsNode}
+use Rattle.tree.specs.Nodes.{node_at, IsNode}
 use Rattle.chain.specs.declared.Found.{Found}
 use Rattle.chain.specs.declared.Tally.{Tally}
-use Rattle.chain.specs.Reading.{Link, Walk, Walk.broken, Walk.walked, consed, nodeIn, link_at, end_of, mayFollow, walk}
-use Rattle.chain.specs.Listing.{isUnder, first_slot, between, findIn, or_else, counted, tally_of, row_of}
-use Rattle.chain.specs.Outcome.{recordNamed, recordRead}
+use Rattle.chain.specs.Reading.{Link, Walk, Walk.broken, Walk.walked, consed, node_in, link_at, end_of, may_follow, walk}
+use Rattle.chain.specs.Listing.{is_under, first_slot, between, find_in, or_else, counted, tally_of, row_of}
+use Rattle.chain.specs.Outcome.{record_named, record_read}
 use Rattle.chain.specs.Steps.{Preceding}
-use Rattle.chain.proofs.Order.{end-within, end_after, tested-node}
-use Rattle.chain.proofs.Walks.{laid, walk_end, walk-far, walk-bad, walk-on, walk_first}
+use Rattle.chain.proofs.Order.{end_within, end_after, tested_node}
+use Rattle.chain.proofs.Walks.{laid, walk_end, walk_far, walk_bad, walk_on, walk_first}
 
 -- a walk that will end with the outcome T and the row R has come to the index `next`, after the slot `last`
 pub record Going (d : ℕ) (s : Slots) (n : ℕ) (T : Result Tally Halt) (R : List ℕ) (from : ℕ) (before : Option Node) (last next : ℕ) (t : Tally) (row : List ℕ) : Type 0 where
@@ -41,33 +41,33 @@ begun d s n next t row e = record {
   rows = refl;
 }
 
-found-more : (o : Option Found) (b : Bool) (f : Found) (p : Option Found) → or_else o (cond b (Some f) p) ≡ or_else (or_else o (cond b (Some f) None)) p
-found-more (Some g) b f p = refl
-found-more None true f p = refl
-found-more None false f p = refl
+found_more : (o : Option Found) (b : Bool) (f : Found) (p : Option Found) → or_else o (cond b (Some f) p) ≡ or_else (or_else o (cond b (Some f) None)) p
+found_more (Some g) b f p = refl
+found_more None true f p = refl
+found_more None false f p = refl
 
 found_all : (o : Option Found) → or_else o None ≡ o
 found_all (Some g) = refl
 found_all None = refl
 
-tally-eq : (a b l : ℕ) (o p : Option Found) → a ≡ b → o ≡ p →
+tally_eq : (a b l : ℕ) (o p : Option Found) → a ≡ b → o ≡ p →
     ◌≡◌ {A = Tally} (record { length = a; lowest = l; found = o }) (record { length = b; lowest = l; found = p })
-tally-eq a b l o p e f = ap₂ (λ (x : ℕ) (y : Option Found). record { length = x; lowest = l; found = y }) e f
+tally_eq a b l o p e f = ap₂ (λ (x : ℕ) (y : Option Found). record { length = x; lowest = l; found = y }) e f
 
 -- a record joins the tally, and its slot the row
-tally-more : (d n : ℕ) (t : Tally) (last m : ℕ) (x : Link) (w : Walk) → ((xs : List Link) → w ≡ walked xs → m ≡ first_slot xs) →
+tally_more : (d n : ℕ) (t : Tally) (last m : ℕ) (x : Link) (w : Walk) → ((xs : List Link) → w ≡ walked xs → m ≡ first_slot xs) →
     tally_of d n t last (consed x w) ≡ tally_of d n (counted d n t (record { slot = x.slot; before = last; node = x.node; next = m })) x.slot w
-tally-more d n t last m x (broken i) h = refl
-tally-more d n t last m x (walked xs) h =
+tally_more d n t last m x (broken i) h = refl
+tally_more d n t last m x (walked xs) h =
     let q : first_slot xs ≡ m = sym (h xs refl) in
     let f : between last x xs ≡ record { slot = x.slot; before = last; node = x.node; next = m } =
     ap (λ (k : ℕ). record { slot = x.slot; before = last; node = x.node; next = k }) q in
     ap Ok
-    (tally-eq _ _ _ _ _ (omega arith)
-    (ap (λ (y : Found). or_else t.found (cond (isUnder d x.node n) (Some y) (findIn d n x.slot xs))) f
-    ∙ found-more t.found (isUnder d x.node n) _ (findIn d n x.slot xs)))
+    (tally_eq _ _ _ _ _ (omega arith)
+    (ap (λ (y : Found). or_else t.found (cond (is_under d x.node n) (Some y) (find_in d n x.slot xs))) f
+    ∙ found_more t.found (is_under d x.node n) _ (find_in d n x.slot xs)))
 
-row_more : (row : List ℕ) (x : Link) (w : Walk) → row_of row (consed x w) ≡ row_of (withMark row x.slot) w
+row_more : (row : List ℕ) (x : Link) (w : Walk) → row_of row (consed x w) ≡ row_of (with_mark row x.slot) w
 row_more row x (broken i) = refl
 row_more row x (walked xs) = refl
 
@@ -83,54 +83,54 @@ module _ {d : ℕ} {s : Slots} {n : ℕ} {T : Result Tally Halt} {R : List ℕ} 
   pub ended : next ≡ 0 → T ≡ Ok t
   ended e =
       sym g.tally ∙ ap (tally_of d n t last) (over e)
-      ∙ ap Ok (tally-eq (t.length + 0) t.length t.lowest (or_else t.found None) t.found (omega arith) (found_all t.found))
+      ∙ ap Ok (tally_eq (t.length + 0) t.length t.lowest (or_else t.found None) t.found (omega arith) (found_all t.found))
 
-  pub ended-row : next ≡ 0 → R ≡ row
-  ended-row e = sym g.rows ∙ ap (row_of row) (over e)
+  pub ended_row : next ≡ 0 → R ≡ row
+  ended_row e = sym g.rows ∙ ap (row_of row) (over e)
 
   stopped : (i : ℕ) → walk d (suc (g.fuel - 1)) s from before last next ≡ broken i → T ≡ Err (placed BadLink i)
   stopped i e = sym g.tally ∙ ap (tally_of d n t last) (ap (λ (k : ℕ). walk d k s from before last next) unused ∙ e)
 
   -- the index is not below the count
   pub far : next ≢ 0 → length s ≤ next → T ≡ Err (placed BadLink last)
-  far ne h = stopped last (walk-far d s (g.fuel - 1) from before last next ne h)
+  far ne h = stopped last (walk_far d s (g.fuel - 1) from before last next ne h)
 
   -- the slot holds no record, or one that may not stand here
   pub spoilt : next ≢ 0 → next < length s → node_of d (get_or s next []) ≡ None → T ≡ Err (placed BadLink next)
-  spoilt ne h e = stopped next (walk-bad d s (g.fuel - 1) from before last next ne h (and_left _ _ (ap is_some e)))
+  spoilt ne h e = stopped next (walk_bad d s (g.fuel - 1) from before last next ne h (and_left _ _ (ap is_some e)))
 
-  pub misplaced : (f : NodeFields) → next ≢ 0 → next < length s → node_of d (get_or s next []) ≡ Some f → mayFollow d from before (nodeAt f.depth f.first) ≡ false → T ≡ Err (placed BadLink next)
+  pub misplaced : (f : NodeFields) → next ≢ 0 → next < length s → node_of d (get_or s next []) ≡ Some f → may_follow d from before (node_at f.depth f.first) ≡ false → T ≡ Err (placed BadLink next)
   misplaced f ne h e m =
       let l = laid d (get_or s next []) f e in
-      stopped next (walk-bad d s (g.fuel - 1) from before last next ne h
-      (and_right _ _ (ap (λ (z : NodeFields). mayFollow d from before (nodeAt z.depth z.first)) l.fields ∙ m)))
+      stopped next (walk_bad d s (g.fuel - 1) from before last next ne h
+      (and_right _ _ (ap (λ (z : NodeFields). may_follow d from before (node_at z.depth z.first)) l.fields ∙ m)))
 
-  pub onward : (f : NodeFields) → next ≢ 0 → next < length s → node_of d (get_or s next []) ≡ Some f → mayFollow d from before (nodeAt f.depth f.first) ≡ true →
-      Going d s n T R (end_of d (nodeAt f.depth f.first)) (Some (nodeAt f.depth f.first)) next f.next
-      (counted d n t (record { slot = next; before = last; node = nodeAt f.depth f.first; next = f.next })) (withMark row next)
+  pub onward : (f : NodeFields) → next ≢ 0 → next < length s → node_of d (get_or s next []) ≡ Some f → may_follow d from before (node_at f.depth f.first) ≡ true →
+      Going d s n T R (end_of d (node_at f.depth f.first)) (Some (node_at f.depth f.first)) next f.next
+      (counted d n t (record { slot = next; before = last; node = node_at f.depth f.first; next = f.next })) (with_mark row next)
   onward f ne h e m =
       let bs : List ℕ = get_or s next [] in
       let l = laid d bs f e in
-      let x = nodeIn bs in
-      let may : mayFollow d from before x ≡ true = ap (λ (z : NodeFields). mayFollow d from before (nodeAt z.depth z.first)) l.fields ∙ m in
+      let x = node_in bs in
+      let may : may_follow d from before x ≡ true = ap (λ (z : NodeFields). may_follow d from before (node_at z.depth z.first)) l.fields ∙ m in
       let start : from ≤ x.first = leb-true _ _ (and_parts (leb from x.first) _ may).0 in
-      let i : IsNode d x = tested-node d x.depth x.first l.here in
-      let w : Walk = walk d (g.fuel - 1) s (end_of d x) (Some x) next (nodeFields bs).next in
+      let i : IsNode d x = tested_node d x.depth x.first l.here in
+      let w : Walk = walk d (g.fuel - 1) s (end_of d x) (Some x) next (node_fields bs).next in
       let step : walk d g.fuel s from before last next ≡ consed (link_at s next) w =
       ap (λ (k : ℕ). walk d k s from before last next) unused
-      ∙ walk-on d s (g.fuel - 1) from before last next ne h (and_from _ _ l.some may) in
+      ∙ walk_on d s (g.fuel - 1) from before last next ne h (and_from _ _ l.some may) in
       let a = end_after d x in
       let P : NodeFields → Type 0 = λ z.
-      Going d s n T R (end_of d (nodeAt z.depth z.first)) (Some (nodeAt z.depth z.first)) next z.next
-      (counted d n t (record { slot = next; before = last; node = nodeAt z.depth z.first; next = z.next })) (withMark row next) in
+      Going d s n T R (end_of d (node_at z.depth z.first)) (Some (node_at z.depth z.first)) next z.next
+      (counted d n t (record { slot = next; before = last; node = node_at z.depth z.first; next = z.next })) (with_mark row next) in
       subst P l.fields
       (record {
         fuel = g.fuel - 1;
-        within = end-within d x i;
+        within = end_within d x i;
         enough = omega (arith, g.enough, g.within);
         few = omega (arith, g.few);
         preceding = (i, refl);
-        tally = sym (tally-more d n t last (nodeFields bs).next (link_at s next) w (walk_first d s (g.fuel - 1) (end_of d x) (Some x) next (nodeFields bs).next))
+        tally = sym (tally_more d n t last (node_fields bs).next (link_at s next) w (walk_first d s (g.fuel - 1) (end_of d x) (Some x) next (node_fields bs).next))
             ∙ sym (ap (tally_of d n t last) step) ∙ g.tally;
         rows = sym (row_more row (link_at s next) w) ∙ sym (ap (row_of row) step) ∙ g.rows;
       })
@@ -142,27 +142,27 @@ pub renamed : {d : ℕ} {s : Slots} {n : ℕ} {T : Result Tally Halt} {R : List 
 renamed from' t' row' e f h g = rw (e, f, h) g
 
 -- ---- what a read of a record tells
-record-none : (i : ℕ) (o : Option NodeFields) (h : Halt) → Err h ≡ recordNamed i o → (o ≡ None) × (h ≡ placed BadLink i)
-record-none i None h e = (refl, cc)
-record-none i (Some x) h e = let z : ◌≡◌ {A = ℕ} 0 1 = cc in absurd (omega arith)
+record_none : (i : ℕ) (o : Option NodeFields) (h : Halt) → Err h ≡ record_named i o → (o ≡ None) × (h ≡ placed BadLink i)
+record_none i None h e = (refl, cc)
+record_none i (Some x) h e = let z : ◌≡◌ {A = ℕ} 0 1 = cc in absurd (omega arith)
 
-record-some : (i : ℕ) (o : Option NodeFields) (f : NodeFields) → Ok f ≡ recordNamed i o → o ≡ Some f
-record-some i None f e = let z : ◌≡◌ {A = ℕ} 0 1 = cc in absurd (omega arith)
-record-some i (Some x) f e = cc
+record_some : (i : ℕ) (o : Option NodeFields) (f : NodeFields) → Ok f ≡ record_named i o → o ≡ Some f
+record_some i None f e = let z : ◌≡◌ {A = ℕ} 0 1 = cc in absurd (omega arith)
+record_some i (Some x) f e = cc
 
-pub record-bad : (d : ℕ) (s : Slots) (on : Bool) (i : ℕ) (h : Halt) → on ≡ true → i < length s → Err h ≡ recordRead d s on i →
+pub record_bad : (d : ℕ) (s : Slots) (on : Bool) (i : ℕ) (h : Halt) → on ≡ true → i < length s → Err h ≡ record_read d s on i →
     (node_of d (get_or s i []) ≡ None) × (h ≡ placed BadLink i)
-record-bad d s on i h p l e =
+record_bad d s on i h p l e =
     let t : ltb i (length s) ≡ true = lt-ltb _ _ l in
-    record-none i (node_of d (get_or s i [])) h (rw (t, p) at e)
+    record_none i (node_of d (get_or s i [])) h (rw (t, p) at e)
 
-pub record-good : (d : ℕ) (s : Slots) (on : Bool) (i : ℕ) (f : NodeFields) → on ≡ true → i < length s → Ok f ≡ recordRead d s on i → node_of d (get_or s i []) ≡ Some f
-record-good d s on i f p l e =
+pub record_good : (d : ℕ) (s : Slots) (on : Bool) (i : ℕ) (f : NodeFields) → on ≡ true → i < length s → Ok f ≡ record_read d s on i → node_of d (get_or s i []) ≡ Some f
+record_good d s on i f p l e =
     let t : ltb i (length s) ≡ true = lt-ltb _ _ l in
-    record-some i (node_of d (get_or s i [])) f (rw (t, p) at e)
+    record_some i (node_of d (get_or s i [])) f (rw (t, p) at e)
 
 -- a walk that ends with a refusal gives no chain
-pub no-chain : (d n : ℕ) (t : Tally) (b : ℕ) (w : Walk) (h : Halt) (xs : List Link) (a c : List ℕ) → Err h ≡ tally_of d n t b w → w ≡ walked xs → a ≡ c
-no-chain d n t b w h xs a c e q =
+pub no_chain : (d n : ℕ) (t : Tally) (b : ℕ) (w : Walk) (h : Halt) (xs : List Link) (a c : List ℕ) → Err h ≡ tally_of d n t b w → w ≡ walked xs → a ≡ c
+no_chain d n t b w h xs a c e q =
     let f : Err h ≡ tally_of d n t b (walked xs) = e ∙ ap (tally_of d n t b) q in
     let z : ◌≡◌ {A = ℕ} 0 1 = cc in absurd (omega arith)

@@ -2,39 +2,39 @@
 use Rattle.std.proofs.Common.{◌≡◌, ℕ, ◌-◌, ◌*◌, ◌%◌, ◌^◌, ◌<◌, ◌≤◌, Bool, true, false, not, T, eqb, ltb, leb, Some, None, Option, sym, refl, ap, ◌∙◌, subst, inl, inr, ⊎_elim, arith, pow_pos}
 use Rattle.std.proofs.lemmas.Bool.{cases_Bool, cases_lt, and_parts, eq-eqb, eqb-true, le-leb, leb-true, ltb-true}
 use Rattle.tree.specs.declared.Node.{Node}
-use Rattle.tree.specs.Nodes.{nodeAt, width_of, IsNode, Twins}
+use Rattle.tree.specs.Nodes.{node_at, width_of, IsNode, Twins}
 use Rattle.tree.proofs.Members.{range}
-use Rattle.tree.proofs.Places.{is-under}
-use Rattle.tree.proofs.Shapes.{node-from, twins-from, twins-to}
-use Rattle.layout.specs.Records.{isNode}
-use Rattle.chain.specs.Reading.{end_of, isTwin, mayFollow}
+use Rattle.tree.proofs.Places.{under_of_node}
+use Rattle.tree.proofs.Shapes.{node_from, twins_from, twins_to}
+use Rattle.layout.specs.Records.{is_node}
+use Rattle.chain.specs.Reading.{end_of, is_twin, may_follow}
 use Rattle.chain.specs.Steps.{Preceding}
 
 -- a node ends within the tree, and after its first number
-pub end-within : (d : ℕ) (x : Node) → IsNode d x → end_of d x ≤ 2 ^ d
-end-within d x i = let r = range d 0 d 0 x (omega arith) (is-under d x i) in omega arith
+pub end_within : (d : ℕ) (x : Node) → IsNode d x → end_of d x ≤ 2 ^ d
+end_within d x i = let r = range d 0 d 0 x (omega arith) (under_of_node d x i) in omega arith
 
 pub end_after : (d : ℕ) (x : Node) → x.first < end_of d x
 end_after d x = omega (arith, pow_pos (d - x.depth))
 
 -- a node as a record's test finds it
-pub tested-node : (d e p : ℕ) → isNode d e p ≡ true → IsNode d (nodeAt e p)
-tested-node d e p t =
+pub tested_node : (d e p : ℕ) → is_node d e p ≡ true → IsNode d (node_at e p)
+tested_node d e p t =
     let a = and_parts (leb e d) _ t in
     let b = and_parts (ltb p (2 ^ d)) _ a.1 in
-    node-from d (width_of d e) (nodeAt e p) (leb-true _ _ a.0) refl (eqb-true _ _ b.1) (ltb-true _ _ b.0)
+    node_from d (width_of d e) (node_at e p) (leb-true _ _ a.0) refl (eqb-true _ _ b.1) (ltb-true _ _ b.0)
 
 -- the sibling test
-twin-true : (d : ℕ) (x y : Node) → Twins d x y → isTwin d x y ≡ true
-twin-true d x y t =
-    let o = twins-to d (width_of d x.depth) x y refl t in
+twin_true : (d : ℕ) (x y : Node) → Twins d x y → is_twin d x y ≡ true
+twin_true d x y t =
+    let o = twins_to d (width_of d x.depth) x y refl t in
     let a : eqb x.depth y.depth ≡ true = eq-eqb _ _ o.same in
     let b : eqb (end_of d x) y.first ≡ true = eq-eqb _ _ o.next in
     let c : eqb (x.first % (2 * width_of d x.depth)) 0 ≡ true = eq-eqb _ _ o.even in
     rw (a, b, c)
 
-pub twin-from : (d : ℕ) (x y : Node) → IsNode d x → IsNode d y → isTwin d x y ≡ true → Twins d x y
-twin-from d x y i j t =
+pub twin_from : (d : ℕ) (x y : Node) → IsNode d x → IsNode d y → is_twin d x y ≡ true → Twins d x y
+twin_from d x y i j t =
     let a = and_parts (eqb x.depth y.depth) _ t in
     let b = and_parts (eqb (end_of d x) y.first) _ a.1 in
     let n : end_of d x ≡ y.first = eqb-true _ _ b.0 in
@@ -45,20 +45,20 @@ twin-from d x y i j t =
           let w : width_of d x.depth ≡ 2 ^ d = ap (λ (e : ℕ). 2 ^ (d - e)) z ∙ ap (λ (e : ℕ). 2 ^ e) (omega arith) in
           absurd (omega (arith, j.inside, n, w))
     ] in
-    twins-from d (width_of d x.depth) x y i refl deep (eqb-true _ _ a.0) (eqb-true _ _ b.1) n
+    twins_from d (width_of d x.depth) x y i refl deep (eqb-true _ _ a.0) (eqb-true _ _ b.1) n
 
-twin-is : (d : ℕ) (x y : Node) (r : Bool) → IsNode d x → IsNode d y → (T r → Twins d x y) → (Twins d x y → T r) → r ≡ isTwin d x y
-twin-is d x y true i j f g = sym (twin-true d x y (f tt))
-twin-is d x y false i j f g = ⊎_elim
-    (λ (t : isTwin d x y ≡ true). absurd (g (twin-from d x y i j t)))
-    (λ (t : isTwin d x y ≡ false). sym t)
-    (cases_Bool (isTwin d x y))
+twin_is : (d : ℕ) (x y : Node) (r : Bool) → IsNode d x → IsNode d y → (T r → Twins d x y) → (Twins d x y → T r) → r ≡ is_twin d x y
+twin_is d x y true i j f g = sym (twin_true d x y (f tt))
+twin_is d x y false i j f g = ⊎_elim
+    (λ (t : is_twin d x y ≡ true). absurd (g (twin_from d x y i j t)))
+    (λ (t : is_twin d x y ≡ false). sym t)
+    (cases_Bool (is_twin d x y))
 
-pub follow-some : (d from : ℕ) (before : Option Node) (x y : Node) (r : Bool) → before ≡ Some x → Preceding d before from → IsNode d y → from ≤ y.first →
-    (T r → Twins d x y) → (Twins d x y → T r) → not r ≡ mayFollow d from before y
-follow-some d from None x y r e p j l f g = let z : ◌≡◌ {A = ℕ} 0 1 = cc in absurd (omega arith)
-follow-some d from (Some z) x y r e p j l f g =
+pub follow_some : (d from : ℕ) (before : Option Node) (x y : Node) (r : Bool) → before ≡ Some x → Preceding d before from → IsNode d y → from ≤ y.first →
+    (T r → Twins d x y) → (Twins d x y → T r) → not r ≡ may_follow d from before y
+follow_some d from None x y r e p j l f g = let z : ◌≡◌ {A = ℕ} 0 1 = cc in absurd (omega arith)
+follow_some d from (Some z) x y r e p j l f g =
     let q : z ≡ x = cc in
     let i : IsNode d x = subst (IsNode d) q p.0 in
     let t : leb from y.first ≡ true = le-leb _ _ l in
-    rw t (ap not (twin-is d x y r i j f g ∙ ap (λ (v : Node). isTwin d v y) (sym q)))
+    rw t (ap not (twin_is d x y r i j f g ∙ ap (λ (v : Node). is_twin d v y) (sym q)))

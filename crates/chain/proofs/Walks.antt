@@ -3,9 +3,9 @@ use Rattle.std.proofs.Common.{◌≡◌, ℕ, zero, suc, ◌<◌, ◌≤◌, Boo
 use Rattle.std.proofs.lemmas.Bool.{cases_Bool, lt-ltb, le-ltb, and_parts}
 use Rattle.device.specs.Effects.{Slots}
 use Rattle.layout.specs.declared.NodeFields.{NodeFields}
-use Rattle.layout.specs.Records.{part, allZero, isNode, isRecord, nodeFields, node_of}
+use Rattle.layout.specs.Records.{part, all_zero, is_node, is_record, node_fields, node_of}
 use Rattle.tree.specs.declared.Node.{Node}
-use Rattle.chain.specs.Reading.{Link, Walk, Walk.broken, Walk.walked, consed, nodeIn, link_at, end_of, mayFollow, walk}
+use Rattle.chain.specs.Reading.{Link, Walk, Walk.broken, Walk.walked, consed, node_in, link_at, end_of, may_follow, walk}
 use Rattle.chain.specs.Listing.{first_slot}
 
 -- what a record's bytes say where they are laid out as one
@@ -14,64 +14,64 @@ named true x y e = (refl, cc)
 named false x y e = let z : ◌≡◌ {A = ℕ} 0 1 = cc in absurd (omega arith)
 
 pub record Laid (d : ℕ) (bs : List ℕ) (f : NodeFields) : Type 0 where
-  pub fields : nodeFields bs ≡ f
-  pub node : isNode d f.depth f.first ≡ true
-  pub here : isNode d (nodeFields bs).depth (nodeFields bs).first ≡ true
+  pub fields : node_fields bs ≡ f
+  pub node : is_node d f.depth f.first ≡ true
+  pub here : is_node d (node_fields bs).depth (node_fields bs).first ≡ true
   pub some : is_some (node_of d bs) ≡ true
 
 pub laid : (d : ℕ) (bs : List ℕ) (f : NodeFields) → node_of d bs ≡ Some f → Laid d bs f
 unfolding node_of
 laid d bs f e =
-    let p = named (isRecord d bs) (nodeFields bs) f e in
+    let p = named (is_record d bs) (node_fields bs) f e in
     let q = and_parts (eqb (get_or bs 0 0) 2) _ p.0 in
-    let r = and_parts (allZero (part 6 26 bs)) _ q.1 in
-    record { fields = p.1; node = subst (λ (z : NodeFields). isNode d z.depth z.first ≡ true) p.1 r.1; here = r.1; some = ap is_some e }
+    let r = and_parts (all_zero (part 6 26 bs)) _ q.1 in
+    record { fields = p.1; node = subst (λ (z : NodeFields). is_node d z.depth z.first ≡ true) p.1 r.1; here = r.1; some = ap is_some e }
 
 module _ (d : ℕ) (s : Slots) where
   pub walk_end : (k from : ℕ) (b : Option Node) (last : ℕ) → walk d k s from b last 0 ≡ walked []
   unfolding walk
   walk_end k from b last = refl
 
-  pub walk-far : (k from : ℕ) (b : Option Node) (last i : ℕ) → i ≢ 0 → length s ≤ i → walk d (suc k) s from b last i ≡ broken last
+  pub walk_far : (k from : ℕ) (b : Option Node) (last i : ℕ) → i ≢ 0 → length s ≤ i → walk d (suc k) s from b last i ≡ broken last
   unfolding walk
-  walk-far k from b last zero ne h = absurd (ne refl)
-  walk-far k from b last (suc i) ne h = let t : ltb (suc i) (length s) ≡ false = le-ltb _ _ h in rw t
+  walk_far k from b last zero ne h = absurd (ne refl)
+  walk_far k from b last (suc i) ne h = let t : ltb (suc i) (length s) ≡ false = le-ltb _ _ h in rw t
 
-  pub walk-bad : (k from : ℕ) (b : Option Node) (last i : ℕ) → i ≢ 0 → i < length s →
-      (is_some (node_of d (get_or s i [])) && mayFollow d from b (nodeIn (get_or s i []))) ≡ false → walk d (suc k) s from b last i ≡ broken i
+  pub walk_bad : (k from : ℕ) (b : Option Node) (last i : ℕ) → i ≢ 0 → i < length s →
+      (is_some (node_of d (get_or s i [])) && may_follow d from b (node_in (get_or s i []))) ≡ false → walk d (suc k) s from b last i ≡ broken i
   unfolding walk
-  walk-bad k from b last zero ne h e = absurd (ne refl)
-  walk-bad k from b last (suc i) ne h e = let t : ltb (suc i) (length s) ≡ true = lt-ltb _ _ h in rw (t, e)
+  walk_bad k from b last zero ne h e = absurd (ne refl)
+  walk_bad k from b last (suc i) ne h e = let t : ltb (suc i) (length s) ≡ true = lt-ltb _ _ h in rw (t, e)
 
-  pub walk-on : (k from : ℕ) (b : Option Node) (last i : ℕ) → i ≢ 0 → i < length s →
-      (is_some (node_of d (get_or s i [])) && mayFollow d from b (nodeIn (get_or s i []))) ≡ true →
+  pub walk_on : (k from : ℕ) (b : Option Node) (last i : ℕ) → i ≢ 0 → i < length s →
+      (is_some (node_of d (get_or s i [])) && may_follow d from b (node_in (get_or s i []))) ≡ true →
       walk d (suc k) s from b last i ≡
-      consed (link_at s i) (walk d k s (end_of d (nodeIn (get_or s i []))) (Some (nodeIn (get_or s i []))) i (nodeFields (get_or s i [])).next)
+      consed (link_at s i) (walk d k s (end_of d (node_in (get_or s i []))) (Some (node_in (get_or s i []))) i (node_fields (get_or s i [])).next)
   unfolding walk
-  walk-on k from b last zero ne h e = absurd (ne refl)
-  walk-on k from b last (suc i) ne h e = let t : ltb (suc i) (length s) ≡ true = lt-ltb _ _ h in rw (t, e)
+  walk_on k from b last zero ne h e = absurd (ne refl)
+  walk_on k from b last (suc i) ne h e = let t : ltb (suc i) (length s) ≡ true = lt-ltb _ _ h in rw (t, e)
 
-  consed-first : (x : Link) (w : Walk) (xs : List Link) → consed x w ≡ walked xs → x.slot ≡ first_slot xs
-  consed-first x (broken i) xs e = let z : ◌≡◌ {A = ℕ} 0 1 = cc in absurd (omega arith)
-  consed-first x (walked ys) xs e = let q : x ∷ ys ≡ xs = cc in ap first_slot q
+  consed_first : (x : Link) (w : Walk) (xs : List Link) → consed x w ≡ walked xs → x.slot ≡ first_slot xs
+  consed_first x (broken i) xs e = let z : ◌≡◌ {A = ℕ} 0 1 = cc in absurd (omega arith)
+  consed_first x (walked ys) xs e = let q : x ∷ ys ≡ xs = cc in ap first_slot q
 
-  first-none : (xs : List Link) → walked [] ≡ walked xs → first_slot xs ≡ 0
-  first-none [] e = refl
-  first-none (x ∷ xs) e = let z : ◌≡◌ {A = ℕ} 0 1 = cc in absurd (omega arith)
+  first_none : (xs : List Link) → walked [] ≡ walked xs → first_slot xs ≡ 0
+  first_none [] e = refl
+  first_none (x ∷ xs) e = let z : ◌≡◌ {A = ℕ} 0 1 = cc in absurd (omega arith)
 
   -- a walk that succeeds begins with the record in the slot that it was sent to
   pub walk_first : (k from : ℕ) (b : Option Node) (last i : ℕ) (xs : List Link) → walk d k s from b last i ≡ walked xs → i ≡ first_slot xs
   unfolding walk
-  walk_first k from b last zero xs e = sym (first-none xs e)
+  walk_first k from b last zero xs e = sym (first_none xs e)
   walk_first zero from b last (suc i) xs e = let z : ◌≡◌ {A = ℕ} 0 1 = cc in absurd (omega arith)
   walk_first (suc k) from b last (suc i) xs e = ⊎_elim
       (λ (t : ltb (suc i) (length s) ≡ true). ⊎_elim
-      (λ (u : (is_some (node_of d (get_or s (suc i) [])) && mayFollow d from b (nodeIn (get_or s (suc i) []))) ≡ true).
-      consed-first (link_at s (suc i)) _ xs (rw (t, u) at e))
-      (λ (u : (is_some (node_of d (get_or s (suc i) [])) && mayFollow d from b (nodeIn (get_or s (suc i) []))) ≡ false).
+      (λ (u : (is_some (node_of d (get_or s (suc i) [])) && may_follow d from b (node_in (get_or s (suc i) []))) ≡ true).
+      consed_first (link_at s (suc i)) _ xs (rw (t, u) at e))
+      (λ (u : (is_some (node_of d (get_or s (suc i) [])) && may_follow d from b (node_in (get_or s (suc i) []))) ≡ false).
       let f : broken (suc i) ≡ walked xs = rw (t, u) at e in
       let z : ◌≡◌ {A = ℕ} 0 1 = cc in absurd (omega arith))
-      (cases_Bool (is_some (node_of d (get_or s (suc i) [])) && mayFollow d from b (nodeIn (get_or s (suc i) [])))))
+      (cases_Bool (is_some (node_of d (get_or s (suc i) [])) && may_follow d from b (node_in (get_or s (suc i) [])))))
       (λ (t : ltb (suc i) (length s) ≡ false).
       let f : broken last ≡ walked xs = rw t at e in
       let z : ◌≡◌ {A = ℕ} 0 1 = cc in absurd (omega arith))

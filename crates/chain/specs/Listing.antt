@@ -3,15 +3,15 @@ use Rattle.std.specs.Prelude.{ℕ, ◌+◌, max, Bool, cond, ◌&&◌, List, [],
 use Rattle.fault.specs.declared.Halt.{Halt}
 use Rattle.fault.specs.Faults.{placed}
 use Rattle.refusal.specs.declared.Refusal.TheVariants.{BadLink}
-use Rattle.marks.specs.Rows.{withMark}
+use Rattle.marks.specs.Rows.{with_mark}
 use Rattle.tree.specs.declared.Node.{Node}
 use Rattle.chain.specs.declared.Found.{Found}
 use Rattle.chain.specs.declared.Tally.{Tally}
-use Rattle.chain.specs.Reading.{Link, Walk, Walk.broken, Walk.walked, end_of, lowestFrom}
+use Rattle.chain.specs.Reading.{Link, Walk, Walk.broken, Walk.walked, end_of, lowest_from}
 
 -- whether a node covers a number
-abbrev pub isUnder : ℕ → Node → ℕ → Bool
-isUnder d x n = nat_le x.first n && nat_lt n (end_of d x)
+abbrev pub is_under : ℕ → Node → ℕ → Bool
+is_under d x n = nat_le x.first n && nat_lt n (end_of d x)
 
 -- the slot of the first record, 0 where there is none
 abbrev pub first_slot : List Link → ℕ
@@ -23,14 +23,14 @@ abbrev pub between : ℕ → Link → List Link → Found
 between b x xs = record { slot = x.slot; before = b; node = x.node; next = first_slot xs }
 
 -- the record that covers n, with the slots of its neighbours: the slot b stands before the list
-abbrev pub findIn : ℕ → ℕ → ℕ → List Link → Option Found
-findIn d n b [] = None
-findIn d n b (x ∷ xs) = cond (isUnder d x.node n) (Some (between b x xs)) (findIn d n x.slot xs)
+abbrev pub find_in : ℕ → ℕ → ℕ → List Link → Option Found
+find_in d n b [] = None
+find_in d n b (x ∷ xs) = cond (is_under d x.node n) (Some (between b x xs)) (find_in d n x.slot xs)
 
 -- the row with the slot of each record marked
-abbrev pub markedAll : List ℕ → List Link → List ℕ
-markedAll row [] = row
-markedAll row (x ∷ xs) = markedAll (withMark row x.slot) xs
+abbrev pub marked_all : List ℕ → List Link → List ℕ
+marked_all row [] = row
+marked_all row (x ∷ xs) = marked_all (with_mark row x.slot) xs
 
 -- ---- a walk that keeps count
 abbrev pub or_else : Option Found → Option Found → Option Found
@@ -42,19 +42,19 @@ abbrev pub counted : ℕ → ℕ → Tally → Found → Tally
 counted d n t f = record {
   length = t.length + 1;
   lowest = cond (nat_le f.node.first t.lowest) (max t.lowest (end_of d f.node)) t.lowest;
-  found = or_else t.found (cond (isUnder d f.node n) (Some f) None);
+  found = or_else t.found (cond (is_under d f.node n) (Some f) None);
 }
 
 -- the tally at the end of a walk of which the tally t is known when the slot b is read
 abbrev pub tally_of : ℕ → ℕ → Tally → ℕ → Walk → Result Tally Halt
 tally_of d n t b (broken i) = Err (placed BadLink i)
-tally_of d n t b (walked xs) = Ok (record { length = t.length + length xs; lowest = lowestFrom d t.lowest xs; found = or_else t.found (findIn d n b xs) })
+tally_of d n t b (walked xs) = Ok (record { length = t.length + length xs; lowest = lowest_from d t.lowest xs; found = or_else t.found (find_in d n b xs) })
 
 -- the tally before the first record, of a file with so many numbers issued
-abbrev pub noneYet : ℕ → Tally
-noneYet m = record { length = 0; lowest = m; found = None }
+abbrev pub none_yet : ℕ → Tally
+none_yet m = record { length = 0; lowest = m; found = None }
 
 -- the row at the end of a walk
 abbrev pub row_of : List ℕ → Walk → List ℕ
 row_of row (broken i) = []
-row_of row (walked xs) = markedAll row xs
+row_of row (walked xs) = marked_all row xs

@@ -9,32 +9,32 @@ use Rattle.device.specs.Effects.{Slots}
 use Rattle.layout.specs.declared.Head.{Head}
 use Rattle.layout.specs.declared.NodeFields.{NodeFields}
 use Rattle.layout.specs.Records.{head_of, node_of}
-use Rattle.marks.specs.Rows.{roomOf}
+use Rattle.marks.specs.Rows.{room_of}
 use Rattle.chain.specs.declared.Survey.{Survey}
-use Rattle.chain.specs.Reading.{Link, File, File.badHead, File.badLink, File.uncovered, File.sound, judged, walk, fileOf}
-use Rattle.chain.specs.Listing.{findIn, markedAll}
+use Rattle.chain.specs.Reading.{Link, File, File.bad_head, File.bad_link, File.uncovered, File.sound, judged, walk, file_of}
+use Rattle.chain.specs.Listing.{find_in, marked_all}
 
 -- why reading is declined, or what stands in the file
 pub data Reading : Type 0 where
   declined : Halt → Reading
   read : Head → List Link → Reading
 
-abbrev pub judgedAs : File → Reading
-judgedAs badHead = declined (plainly BadHead)
-judgedAs (badLink i) = declined (placed BadLink i)
-judgedAs (uncovered n) = declined (placed Uncovered n)
-judgedAs (sound h xs) = read h xs
+abbrev pub judged_as : File → Reading
+judged_as bad_head = declined (plainly BadHead)
+judged_as (bad_link i) = declined (placed BadLink i)
+judged_as (uncovered n) = declined (placed Uncovered n)
+judged_as (sound h xs) = read h xs
 
 -- the chain behind a head
-abbrev pub chainOf : ℕ → Head → Slots → Reading
-chainOf d h s = judgedAs (judged d h (walk d (suc (2 ^ d)) s 0 None 0 h.first))
+abbrev pub chain_of : ℕ → Head → Slots → Reading
+chain_of d h s = judged_as (judged d h (walk d (suc (2 ^ d)) s 0 None 0 h.first))
 
 -- by a server with generator g and sealer w, lent a row of m bytes for the marks: the row first, then whether slot 0
 -- can be read, then what the file is. Reading never fails while the power is on.
 abbrev pub reading_of : ℕ → ℕ → ℕ → ℕ → Slots → Bool → Reading
 reading_of d g w m s on =
-    cond (nat_lt m (roomOf (length s))) (declined (plainly ShortBuffer))
-    (cond (nat_lt 0 (length s)) (cond on (judgedAs (fileOf d g w s)) (declined (unpowered 0 Read))) (declined (placed NoSuchSlot 0)))
+    cond (nat_lt m (room_of (length s))) (declined (plainly ShortBuffer))
+    (cond (nat_lt 0 (length s)) (cond on (judged_as (file_of d g w s)) (declined (unpowered 0 Read))) (declined (placed NoSuchSlot 0)))
 
 -- the number asked for: the one given, or else the next to be issued
 abbrev pub asked_of : Option ℕ → Head → ℕ
@@ -44,26 +44,26 @@ asked_of (Some n) h = n
 -- the answer: the head, the chain's length, and the record that covers the number asked for
 abbrev pub answer_of : ℕ → Option ℕ → Reading → Result Survey Halt
 answer_of d n (declined f) = Err f
-answer_of d n (read h xs) = Ok (record { head = h; length = length xs; found = findIn d (asked_of n h) 0 xs })
+answer_of d n (read h xs) = Ok (record { head = h; length = length xs; found = find_in d (asked_of n h) 0 xs })
 
 -- the row of marks afterwards, where the marks stay: the slots of the chain, and none where reading is declined
-abbrev pub marksOf : ℕ → Reading → List ℕ
-marksOf m (declined f) = zeros m
-marksOf m (read h xs) = markedAll (zeros m) xs
+abbrev pub marks_of : ℕ → Reading → List ℕ
+marks_of m (declined f) = zeros m
+marks_of m (read h xs) = marked_all (zeros m) xs
 
 -- ---- the steps
-abbrev pub headNamed : ℕ → ℕ → Option Head → Result Head Halt
-headNamed g w None = Err (plainly BadHead)
-headNamed g w (Some h) = cond (h.generator == g && h.sealer == w) (Ok h) (Err (plainly BadHead))
+abbrev pub head_named : ℕ → ℕ → Option Head → Result Head Halt
+head_named g w None = Err (plainly BadHead)
+head_named g w (Some h) = cond (h.generator == g && h.sealer == w) (Ok h) (Err (plainly BadHead))
 
-abbrev pub headRead : ℕ → ℕ → ℕ → Slots → Bool → Result Head Halt
-headRead d g w s on =
-    cond (nat_lt 0 (length s)) (cond on (headNamed g w (head_of d (slice_index_or s 0 []))) (Err (unpowered 0 Read))) (Err (placed NoSuchSlot 0))
+abbrev pub head_read : ℕ → ℕ → ℕ → Slots → Bool → Result Head Halt
+head_read d g w s on =
+    cond (nat_lt 0 (length s)) (cond on (head_named g w (head_of d (slice_index_or s 0 []))) (Err (unpowered 0 Read))) (Err (placed NoSuchSlot 0))
 
-abbrev pub recordNamed : ℕ → Option NodeFields → Result NodeFields Halt
-recordNamed i None = Err (placed BadLink i)
-recordNamed i (Some x) = Ok x
+abbrev pub record_named : ℕ → Option NodeFields → Result NodeFields Halt
+record_named i None = Err (placed BadLink i)
+record_named i (Some x) = Ok x
 
-abbrev pub recordRead : ℕ → Slots → Bool → ℕ → Result NodeFields Halt
-recordRead d s on i =
-    cond (nat_lt i (length s)) (cond on (recordNamed i (node_of d (slice_index_or s i []))) (Err (unpowered i Read))) (Err (placed NoSuchSlot i))
+abbrev pub record_read : ℕ → Slots → Bool → ℕ → Result NodeFields Halt
+record_read d s on i =
+    cond (nat_lt i (length s)) (cond on (record_named i (node_of d (slice_index_or s i []))) (Err (unpowered i Read))) (Err (placed NoSuchSlot i))

@@ -4,26 +4,26 @@ use Rattle.octets.specs.Buffers.{zeros}
 use Rattle.device.specs.Effects.{Slots}
 use Rattle.layout.specs.declared.Head.{Head}
 use Rattle.layout.specs.declared.NodeFields.{NodeFields}
-use Rattle.layout.specs.Records.{head_of, encodeHead, nodeFields, node_of, encodeNode}
+use Rattle.layout.specs.Records.{head_of, encode_head, node_fields, node_of, encode_node}
 use Rattle.layout.specs.Trips.{HeadFits, NodeFits}
-use Rattle.marks.specs.Rows.{roomOf, unmarked}
+use Rattle.marks.specs.Rows.{room_of, unmarked}
 use Rattle.tree.specs.declared.Node.{Node}
 use Rattle.tree.specs.Nodes.{IsNode, Covers}
 use Rattle.tree.specs.Cover.{In, Ordered, Reached, Distinct, cover}
-use Rattle.chain.specs.Reading.{Link, File.uncovered, File.sound, nodeIn, link_at, end_of, mayFollow, slots_of, fileOf}
+use Rattle.chain.specs.Reading.{Link, File.uncovered, File.sound, node_in, link_at, end_of, may_follow, slots_of, file_of}
 use Rattle.chain.specs.declared.Found.{Found}
-use Rattle.chain.specs.Listing.{first_slot, between, findIn, markedAll}
+use Rattle.chain.specs.Listing.{first_slot, between, find_in, marked_all}
 
 -- the nodes of the chain, in order
-abbrev pub nodesOf : List Link → List Node
-nodesOf xs = map (λ x. x.node) xs
+abbrev pub nodes_of : List Link → List Node
+nodes_of xs = map (λ x. x.node) xs
 
 -- the links xs stand in the slots s, one leading on to the next, from the index i on, after a record `before` that ends at `from`
 abbrev pub Chained : ℕ → Slots → ℕ → Option Node → ℕ → List Link → Type 0
 Chained d s from before i [] = i ≡ 0
 Chained d s from before i (x ∷ xs) =
-    (0 < i) × (i < length s) × (link_at s i ≡ x) × (is_some (node_of d (slice_index_or s i [])) ≡ true) × (mayFollow d from before (nodeIn (slice_index_or s i [])) ≡ true)
-    × Chained d s (end_of d (nodeIn (slice_index_or s i []))) (Some (nodeIn (slice_index_or s i []))) (nodeFields (slice_index_or s i [])).next xs
+    (0 < i) × (i < length s) × (link_at s i ≡ x) × (is_some (node_of d (slice_index_or s i [])) ≡ true) × (may_follow d from before (node_in (slice_index_or s i [])) ≡ true)
+    × Chained d s (end_of d (node_in (slice_index_or s i []))) (Some (node_in (slice_index_or s i []))) (node_fields (slice_index_or s i [])).next xs
 
 -- the number n is the lowest of those from m on that lie under no node of the list, in a tree of d levels
 pub record Lowest (d m : ℕ) (xs : List Node) (n : ℕ) : Type 0 where
@@ -38,11 +38,11 @@ pub record SoundFile (d g w : ℕ) (s : Slots) (h : Head) (xs : List Link) : Typ
   pub generator : h.generator ≡ g
   pub sealer : h.sealer ≡ w
   pub chained : Chained d s 0 None h.first xs
-  pub nodes : (x : Node) → In x (nodesOf xs) → IsNode d x
-  pub ordered : Ordered d (nodesOf xs)
+  pub nodes : (x : Node) → In x (nodes_of xs) → IsNode d x
+  pub ordered : Ordered d (nodes_of xs)
   pub slots : (i : ℕ) → In i (slots_of xs) → (0 < i) × (i < length s)
   pub distinct : Distinct (slots_of xs)
-  pub unissued : (n : ℕ) → h.issued ≤ n → n < 2 ^ d → Reached d (nodesOf xs) n
+  pub unissued : (n : ℕ) → h.issued ≤ n → n < 2 ^ d → Reached d (nodes_of xs) n
 
 -- a file that lacks the number n, and no lower one
 pub record Bare (d : ℕ) (s : Slots) (n : ℕ) : Type 0 where
@@ -50,7 +50,7 @@ pub record Bare (d : ℕ) (s : Slots) (n : ℕ) : Type 0 where
   pub links : List Link
   pub read : head_of d (slice_index_or s 0 []) ≡ Some head
   pub chained : Chained d s 0 None head.first links
-  pub lowest : Lowest d head.issued (nodesOf links) n
+  pub lowest : Lowest d head.issued (nodes_of links) n
 
 -- ---- a file as it is laid out
 abbrev pub fields_of : Node → ℕ → NodeFields
@@ -59,7 +59,7 @@ fields_of x next = record { depth = x.depth; first = x.first; next = next }
 pub record Stands (d : ℕ) (s : Slots) (x : Link) (next : ℕ) : Type 0 where
   pub above : 0 < x.slot
   pub below : x.slot < length s
-  pub bytes : get_or s x.slot [] ≡ encodeNode (fields_of x.node next) x.value
+  pub bytes : get_or s x.slot [] ≡ encode_node (fields_of x.node next) x.value
   pub fits : NodeFits d (fields_of x.node next)
 
 abbrev pub Linked : ℕ → Slots → List Link → Type 0
@@ -67,16 +67,16 @@ Linked d s [] = Unit {0}
 Linked d s (x ∷ xs) = Stands d s x (first_slot xs) × Linked d s xs
 
 pub record Laid (d : ℕ) (s : Slots) (h : Head) (xs : List Link) : Type 0 where
-  pub bytes : get_or s 0 [] ≡ encodeHead d h
+  pub bytes : get_or s 0 [] ≡ encode_head d h
   pub fits : HeadFits d h
   pub first : h.first ≡ first_slot xs
   pub links : Linked d s xs
 
 -- ---- the record that covers a number
 -- the slot of the last record, b where there is none
-abbrev pub lastSlot : ℕ → List Link → ℕ
-lastSlot b [] = b
-lastSlot b (x ∷ xs) = lastSlot x.slot xs
+abbrev pub last_slot : ℕ → List Link → ℕ
+last_slot b [] = b
+last_slot b (x ∷ xs) = last_slot x.slot xs
 
 -- f is the record of the list that covers n, between its neighbours; the slot b stands before the list
 pub record FoundAt (d n b : ℕ) (xs : List Link) (f : Found) : Type 0 where
@@ -84,31 +84,31 @@ pub record FoundAt (d n b : ℕ) (xs : List Link) (f : Found) : Type 0 where
   pub link : Link
   pub back : List Link
   pub split : xs ≡ front ++ (link ∷ back)
-  pub is : f ≡ between (lastSlot b front) link back
+  pub is : f ≡ between (last_slot b front) link back
   pub covers : Covers d link.node n
 
 -- ---- what is proved
 pub record FileLaws : Type 0 where
   -- what a sound file is, and nothing else is one
-  pub exact : (d g w : ℕ) (s : Slots) (h : Head) (xs : List Link) → fileOf d g w s ≡ sound h xs ↔ SoundFile d g w s h xs
+  pub exact : (d g w : ℕ) (s : Slots) (h : Head) (xs : List Link) → file_of d g w s ≡ sound h xs ↔ SoundFile d g w s h xs
   -- the number that is told where one lies under no record
-  pub lacking : (d g w : ℕ) (s : Slots) (n : ℕ) → fileOf d g w s ≡ uncovered n → Bare d s n
+  pub lacking : (d g w : ℕ) (s : Slots) (n : ℕ) → file_of d g w s ≡ uncovered n → Bare d s n
   -- a chain laid out as the cover of numbers that are all issued is read back, with its head
-  pub back : (d : ℕ) (s : Slots) (h : Head) (xs : List Link) (spent : List ℕ) → Laid d s h xs → nodesOf xs ≡ cover d spent → ((n : ℕ) → In n spent → n < h.issued) →
-      fileOf d h.generator h.sealer s ≡ sound h xs
+  pub back : (d : ℕ) (s : Slots) (h : Head) (xs : List Link) (spent : List ℕ) → Laid d s h xs → nodes_of xs ≡ cover d spent → ((n : ℕ) → In n spent → n < h.issued) →
+      file_of d h.generator h.sealer s ≡ sound h xs
   -- the record that is told covers the number asked for, and where none is told none covers it
-  pub found : (d n b : ℕ) (xs : List Link) (f : Found) → findIn d n b xs ≡ Some f → FoundAt d n b xs f
-  pub missing : (d n b : ℕ) (xs : List Link) → findIn d n b xs ≡ None → Reached d (nodesOf xs) n → ⊥
+  pub found : (d n b : ℕ) (xs : List Link) (f : Found) → find_in d n b xs ≡ Some f → FoundAt d n b xs f
+  pub missing : (d n b : ℕ) (xs : List Link) → find_in d n b xs ≡ None → Reached d (nodes_of xs) n → ⊥
 
 -- ---- the free slots, by the marks that a reading leaves: the slots other than 0 off the chain, in increasing order
-abbrev pub freeIn : ℕ → ℕ → List ℕ → List ℕ
-freeIn from count row = unmarked row from (count - from)
+abbrev pub free_in : ℕ → ℕ → List ℕ → List ℕ
+free_in from count row = unmarked row from (count - from)
 
 abbrev pub FreeAre : Type 0
-FreeAre = (m count from : ℕ) (xs : List Link) (i : ℕ) → roomOf count ≤ m → ((j : ℕ) → In j (slots_of xs) → j < count) →
-    In i (freeIn from count (markedAll (zeros m) xs)) ↔ ((from ≤ i) × (i < count) × (In i (slots_of xs) → ⊥))
+FreeAre = (m count from : ℕ) (xs : List Link) (i : ℕ) → room_of count ≤ m → ((j : ℕ) → In j (slots_of xs) → j < count) →
+    In i (free_in from count (marked_all (zeros m) xs)) ↔ ((from ≤ i) × (i < count) × (In i (slots_of xs) → ⊥))
 
 -- there are as many as there are slots other than 0, less the records of the chain
 abbrev pub FreeCount : Type 0
-FreeCount = (m count : ℕ) (xs : List Link) → roomOf count ≤ m → ((j : ℕ) → In j (slots_of xs) → (0 < j) × (j < count)) → Distinct (slots_of xs) →
-    length (freeIn 1 count (markedAll (zeros m) xs)) + length xs ≡ count - 1
+FreeCount = (m count : ℕ) (xs : List Link) → room_of count ≤ m → ((j : ℕ) → In j (slots_of xs) → (0 < j) × (j < count)) → Distinct (slots_of xs) →
+    length (free_in 1 count (marked_all (zeros m) xs)) + length xs ≡ count - 1

@@ -9,12 +9,12 @@ ghost use Rattle.octets.specs.Buffers.{zeros};
 ghost use Rattle.device.specs.Effects.{blank};
 ghost use Rattle.fault.specs.Faults.{placed};
 ghost use Rattle.refusal.specs.declared.Refusal.TheVariants.{BadLink};
-ghost use Rattle.tree.specs.Nodes.{treeLevels, IsNode};
-ghost use Rattle.chain.specs.Reading.{Link, Walk.walked, end_of, mayFollow, walk};
-ghost use Rattle.chain.specs.Listing.{counted, tally_of, noneYet, markedAll};
-ghost use Rattle.chain.specs.Outcome.{Reading.read, chainOf, reading_of, answer_of, marksOf, headRead, recordRead};
+ghost use Rattle.tree.specs.Nodes.{tree_levels, IsNode};
+ghost use Rattle.chain.specs.Reading.{Link, Walk.walked, end_of, may_follow, walk};
+ghost use Rattle.chain.specs.Listing.{counted, tally_of, none_yet, marked_all};
+ghost use Rattle.chain.specs.Outcome.{Reading.read, chain_of, reading_of, answer_of, marks_of, head_read, record_read};
 ghost use Rattle.layout.specs.declared.Head.{Head};
-ghost use Rattle.chain.specs.Sound.{FileLaws, FreeAre, FreeCount, freeIn};
+ghost use Rattle.chain.specs.Sound.{FileLaws, FreeAre, FreeCount, free_in};
 ghost use Rattle.chain.specs.Steps.{Preceding};
 ghost use Rattle.marks.specs.Rows.{first_of};
 
@@ -32,7 +32,7 @@ pub const LEAVES: u32 = 1 << LEVELS;
 
 /// The number of numbers.
 pub fn leaves_stand() -> u8
-    ensures { LEAVES ≡ 2 ^ treeLevels }
+    ensures { LEAVES ≡ 2 ^ tree_levels }
 {
     0
 }
@@ -80,7 +80,7 @@ fn read_head<D: ReadSlots>(
     sealer: u8,
     slot: &mut [u8; 64],
 ) -> Result<Head, Halt>
-    ensures { result ≡ headRead treeLevels generator sealer (D.slots device.now) (D.powered device.now) }
+    ensures { result ≡ head_read tree_levels generator sealer (D.slots device.now) (D.powered device.now) }
 {
     read_at(device, 0, slot)?;
     let bad = Halt::plain(Refusal::BadHead);
@@ -99,7 +99,7 @@ fn read_record<D: ReadSlots>(
     index: u16,
     slot: &mut [u8; 64],
 ) -> Result<NodeFields, Halt>
-    ensures { result ≡ recordRead treeLevels (D.slots device.now) (D.powered device.now) index }
+    ensures { result ≡ record_read tree_levels (D.slots device.now) (D.powered device.now) index }
 {
     read_at(device, index, slot)?;
     match decode_node(LEVELS, slot) {
@@ -110,8 +110,8 @@ fn read_record<D: ReadSlots>(
 
 // Whether a node may come after the one that ends at `from`.
 fn may_follow(from: u32, before: Option<Node>, node: Node) -> bool
-    requires { (Preceding treeLevels before from) × (IsNode treeLevels node) }
-    ensures { result ≡ mayFollow treeLevels from before node }
+    requires { (Preceding tree_levels before from) × (IsNode tree_levels node) }
+    ensures { result ≡ may_follow tree_levels from before node }
 {
     if node.first < from {
         return false;
@@ -125,8 +125,8 @@ fn may_follow(from: u32, before: Option<Node>, node: Node) -> bool
 impl Tally {
     // One more record.
     fn with(self, wanted: u32, here: Found) -> Tally
-        requires { (IsNode treeLevels here.node) × (self.length < 2 ^ treeLevels) }
-        ensures { result ≡ counted treeLevels wanted self here }
+        requires { (IsNode tree_levels here.node) × (self.length < 2 ^ tree_levels) }
+        ensures { result ≡ counted tree_levels wanted self here }
     {
         let end = here.node.first + here.node.width(LEVELS);
         let lowest = if here.node.first <= self.lowest {
@@ -162,8 +162,8 @@ fn walk_along<D: ReadSlots>(
     slot: &mut [u8; 64],
 ) -> Result<Tally, Halt>
     requires { D.powered device.now ≡ true }
-    ensures is { result ≡ tally_of treeLevels wanted (noneYet head.now.issued) 0 (walk treeLevels (suc (2 ^ treeLevels)) (D.slots device.now) 0 None 0 head.now.first) }
-    ensures marks { (xs : List Link) → walk treeLevels (suc (2 ^ treeLevels)) (D.slots device.now) 0 None 0 head.now.first ≡ walked xs → marks.new ≡ markedAll marks.old xs }
+    ensures is { result ≡ tally_of tree_levels wanted (none_yet head.now.issued) 0 (walk tree_levels (suc (2 ^ tree_levels)) (D.slots device.now) 0 None 0 head.now.first) }
+    ensures marks { (xs : List Link) → walk tree_levels (suc (2 ^ tree_levels)) (D.slots device.now) 0 None 0 head.now.first ≡ walked xs → marks.new ≡ marked_all marks.old xs }
 {
     let count = device.count();
     let mut tally = Tally {
@@ -215,8 +215,8 @@ fn judge<D: ReadSlots>(
     slot: &mut [u8; 64],
 ) -> Result<Survey, Halt>
     requires { D.powered device.now ≡ true }
-    ensures is { result ≡ answer_of treeLevels (Some wanted) (chainOf treeLevels head.now (D.slots device.now)) }
-    ensures marks { (h : Head) (xs : List Link) → chainOf treeLevels head.now (D.slots device.now) ≡ read h xs → marks.new ≡ markedAll marks.old xs }
+    ensures is { result ≡ answer_of tree_levels (Some wanted) (chain_of tree_levels head.now (D.slots device.now)) }
+    ensures marks { (h : Head) (xs : List Link) → chain_of tree_levels head.now (D.slots device.now) ≡ read h xs → marks.new ≡ marked_all marks.old xs }
 {
     let tally = walk_along(device, head, wanted, marks, slot)?;
     if tally.lowest < LEAVES {
@@ -240,8 +240,8 @@ pub fn read_marking<D: ReadSlots>(
     marks: &mut [u8],
     slot: &mut [u8; 64],
 ) -> Result<Survey, Halt>
-    ensures is { result ≡ answer_of treeLevels asked (reading_of treeLevels generator sealer (length marks.old) (D.slots device.now) (D.powered device.now)) }
-    ensures marks { marks.new ≡ marksOf (length marks.old) (reading_of treeLevels generator sealer (length marks.old) (D.slots device.now) (D.powered device.now)) }
+    ensures is { result ≡ answer_of tree_levels asked (reading_of tree_levels generator sealer (length marks.old) (D.slots device.now) (D.powered device.now)) }
+    ensures marks { marks.new ≡ marks_of (length marks.old) (reading_of tree_levels generator sealer (length marks.old) (D.slots device.now) (D.powered device.now)) }
     ensures wiped { slot.new ≡ blank }
 {
     let guard = Wiped { pad: slot };
@@ -273,7 +273,7 @@ pub fn read_file<D: ReadSlots>(
     marks: &mut [u8],
     slot: &mut [u8; 64],
 ) -> Result<Survey, Halt>
-    ensures is { result ≡ answer_of treeLevels asked (reading_of treeLevels generator sealer (length marks.old) (D.slots device.now) (D.powered device.now)) }
+    ensures is { result ≡ answer_of tree_levels asked (reading_of tree_levels generator sealer (length marks.old) (D.slots device.now) (D.powered device.now)) }
     ensures marks { marks.new ≡ zeros (length marks.old) }
     ensures wiped { slot.new ≡ blank }
     ensures laws { FileLaws }
@@ -285,7 +285,7 @@ pub fn read_file<D: ReadSlots>(
 
 /// How many slots are free, by the marks that a reading left: the slots other than 0 off the chain.
 pub fn count_free(marks: &[u8], count: usize) -> usize
-    ensures is { result ≡ length (freeIn 1 count marks.now) }
+    ensures is { result ≡ length (free_in 1 count marks.now) }
     ensures free { FreeAre }
     ensures sum { FreeCount }
 {
@@ -294,7 +294,7 @@ pub fn count_free(marks: &[u8], count: usize) -> usize
 
 /// The lowest free slot from a slot on, by the marks that a reading left.
 pub fn next_free(marks: &[u8], from: usize, count: usize) -> Option<usize>
-    ensures is { result ≡ first_of (freeIn (max from 1) count marks.now) }
+    ensures is { result ≡ first_of (free_in (max from 1) count marks.now) }
     ensures free { FreeAre }
 {
     first_unmarked(marks, from.max(1), count)

@@ -11,12 +11,12 @@ abbrev pub Slots : Type 0
 Slots = List Slot
 
 -- how many bytes a slot has
-abbrev pub slotSize : ℕ
-slotSize = 64
+abbrev pub slot_size : ℕ
+slot_size = 64
 
 -- the slot that holds only zeros
 abbrev pub blank : Slot
-blank = replicate slotSize 0
+blank = replicate slot_size 0
 
 abbrev pub Answer : Type 0
 Answer = Result (Unit {0}) DeviceFault
@@ -48,7 +48,7 @@ abbrev pub Tearing : Slots → Bool → ℕ → Slot → Answer → Slots → Bo
 Tearing s on i b (Ok _) t on' = (i < length s) × (on ≡ true) × (t ≡ slice_set s i b) × (on' ≡ true)
 Tearing s on i b (Err e) t on' =
     (Declined s on i e × (t ≡ s) × (on' ≡ on))
-    ⊎ ((e ≡ NoPower) × (i < length s) × (on ≡ true) × ((m : ℕ) × (m ≤ slotSize) × (t ≡ slice_set s i (torn m (slice_index_or s i []) b))) × (on' ≡ false))
+    ⊎ ((e ≡ NoPower) × (i < length s) × (on ≡ true) × ((m : ℕ) × (m ≤ slot_size) × (t ≡ slice_set s i (torn m (slice_index_or s i []) b))) × (on' ≡ false))
 
 -- a restart changes no slot; after one that is done the power is on, after one that is cut it is off
 abbrev pub Restarting : Slots → Answer → Slots → Bool → Type 0

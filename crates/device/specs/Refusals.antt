@@ -4,6 +4,6 @@ use Rattle.device.specs.declared.DeviceFault.TheVariants.{NoSuchSlot, NoPower}
 use Rattle.refusal.specs.declared.Refusal.{Refusal}
 use Rattle.refusal.specs.declared.Refusal.TheVariants as refusals
 
-abbrev pub refusalOf : DeviceFault → Refusal
-refusalOf NoSuchSlot = refusals.NoSuchSlot
-refusalOf NoPower = refusals.NoPower
+abbrev pub refusal_of : DeviceFault → Refusal
+refusal_of NoSuchSlot = refusals.NoSuchSlot
+refusal_of NoPower = refusals.NoPower

@@ -5,8 +5,8 @@
 #![tactic(auto)]
 
 ghost use Rattle.std.specs.Prelude.{◌≡◌, ℕ, Bool, List, length};
-ghost use Rattle.device.specs.Effects.{Reading, Writing, Restarting, Tearing, slotSize, blank};
-ghost use Rattle.device.specs.Refusals.{refusalOf};
+ghost use Rattle.device.specs.Effects.{Reading, Writing, Restarting, Tearing, slot_size, blank};
+ghost use Rattle.device.specs.Refusals.{refusal_of};
 
 use refusal::Refusal;
 
@@ -16,7 +16,7 @@ pub const SLOT_SIZE: usize = 64;
 /// A slot of zeros.
 pub fn blank_slot() -> [u8; SLOT_SIZE]
     ensures zeros { result ≡ blank }
-    ensures size { SLOT_SIZE ≡ slotSize }
+    ensures size { SLOT_SIZE ≡ slot_size }
 {
     [0; SLOT_SIZE]
 }
@@ -33,7 +33,7 @@ pub enum DeviceFault {
 impl DeviceFault {
     /// The refusal that this is.
     pub fn refusal(self) -> Refusal
-        ensures { result ≡ refusalOf self }
+        ensures { result ≡ refusal_of self }
     {
         match self {
             DeviceFault::NoSuchSlot => Refusal::NoSuchSlot,

@@ -10,23 +10,23 @@ use Rattle.fault.specs.declared.Halt.{Halt}
 use Rattle.fault.specs.declared.Fault.{Fault}
 
 -- the chain finds fault with a file, the device with its power and its slots, the server with all else
-abbrev pub layerOf : Refusal → Layer
-layerOf ShortBuffer = Server
-layerOf SlotCount = Server
-layerOf NotARecord = Server
-layerOf BadHead = Chain
-layerOf BadLink = Chain
-layerOf Uncovered = Chain
-layerOf Exhausted = Server
-layerOf TicketLength = Server
-layerOf OtherName = Server
-layerOf NotIssued = Server
-layerOf Spent = Server
-layerOf SealBroken = Server
-layerOf OpenedNotARecord = Server
-layerOf NoFreeSlot = Server
-layerOf NoPower = Device
-layerOf NoSuchSlot = Device
+abbrev pub layer_of : Refusal → Layer
+layer_of ShortBuffer = Server
+layer_of SlotCount = Server
+layer_of NotARecord = Server
+layer_of BadHead = Chain
+layer_of BadLink = Chain
+layer_of Uncovered = Chain
+layer_of Exhausted = Server
+layer_of TicketLength = Server
+layer_of OtherName = Server
+layer_of NotIssued = Server
+layer_of Spent = Server
+layer_of SealBroken = Server
+layer_of OpenedNotARecord = Server
+layer_of NoFreeSlot = Server
+layer_of NoPower = Device
+layer_of NoSuchSlot = Device
 
 -- a refusal with no place, with a slot or a number, and for want of power at a slot in a step
 abbrev pub plainly : Refusal → Halt
@@ -39,5 +39,5 @@ abbrev pub unpowered : ℕ → Step → Halt
 unpowered i a = record { refusal = NoPower; place = i; step = Some a }
 
 -- what stopped a call, with the call and the layer
-abbrev pub faultOf : Call → Halt → Fault
-faultOf c h = record { refusal = h.refusal; call = c; layer = layerOf h.refusal; place = h.place; step = h.step }
+abbrev pub fault_of : Call → Halt → Fault
+fault_of c h = record { refusal = h.refusal; call = c; layer = layer_of h.refusal; place = h.place; step = h.step }

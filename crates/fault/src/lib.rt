@@ -2,7 +2,7 @@
 #![tactic(auto)]
 
 ghost use Rattle.std.specs.Prelude.{◌≡◌, Some};
-ghost use Rattle.fault.specs.Faults.{layerOf, faultOf, plainly, placed, unpowered};
+ghost use Rattle.fault.specs.Faults.{layer_of, fault_of, plainly, placed, unpowered};
 ghost use Rattle.fault.specs.Words.{call_words, layer_words, step_words, fault_words};
 
 use refusal::Refusal;
@@ -68,7 +68,7 @@ pub struct Fault {
 
 /// The layer that a refusal comes from.
 pub fn layer_of(refusal: Refusal) -> Layer
-    ensures { result ≡ layerOf refusal }
+    ensures { result ≡ layer_of refusal }
 {
     match refusal {
         Refusal::BadHead => Layer::Chain,
@@ -114,7 +114,7 @@ impl Halt {
 
     /// The fault that this is in a call.
     pub fn during(self, call: Call) -> Fault
-        ensures { result ≡ faultOf call self }
+        ensures { result ≡ fault_of call self }
     {
         Fault {
             refusal: self.refusal,

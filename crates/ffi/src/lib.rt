@@ -6,8 +6,8 @@ ghost use Rattle.octets.specs.Buffers.{zeros, filled};
 ghost use Rattle.chacha.specs.Cipher.{block_of};
 ghost use Rattle.sha.specs.Digest.{sha256};
 ghost use Rattle.sealer.specs.Outcomes.{Sealable};
-ghost use Rattle.chachaseal.specs.Meaning.{sealedBytes as chachaSealed};
-ghost use Rattle.hmacseal.specs.Meaning.{sealedBytes as hmacSealed};
+ghost use Rattle.chachaseal.specs.Meaning.{sealed_bytes as chachaSealed};
+ghost use Rattle.hmacseal.specs.Meaning.{sealed_bytes as hmacSealed};
 
 use chachaseal::ChaChaSealer;
 use hmacseal::HmacSealer;

@@ -27,18 +27,18 @@ here : (row s : List ℕ) (at : ℕ) → length s ≡ 32 → at ≤ length row �
 here row s at e b = rw (paste_all row at s 32 (sym e)) (drop_at (take at row) (s ++ drop (at + 32) row) at (length-take-le at row b))
 
 up_to : (row s : List ℕ) (at : ℕ) → length s ≡ 32 → at ≤ length row → take (at + 32) (paste row at s 32) ≡ take at row ++ s
-up_to row s at e b = take-paste row at s 32 b (omega arith) ∙ ap (λ (l : List ℕ). take at row ++ l) (take-all-of s e)
+up_to row s at e b = take-paste row at s 32 b (omega arith) ∙ ap (λ (l : List ℕ). take at row ++ l) (take_all_of s e)
   where
-    take-all-of : (l : List ℕ) → length l ≡ 32 → take 32 l ≡ l
-    take-all-of l e = take_all 32 l (omega arith)
+    take_all_of : (l : List ℕ) → length l ≡ 32 → take 32 l ≡ l
+    take_all_of l e = take_all 32 l (omega arith)
 
 -- one level of the way
 level : (g : Expansion) (h k n : ℕ) (v : List ℕ) (b : Bool) → h ≡ suc k → bit k n ≡ b → besides g h n v ≡ flanked b (g.left v) (g.right v) (besides g k n (step_of g b v))
 level g h k n v b q r = rw (q, r)
 
-pub laid-left : (g : Expansion) (row v r : List ℕ) (n lo hi : ℕ) → lo < hi → hi ≤ 24 → length row ≡ 768 → length r ≡ 32 → r ≡ g.right v → bit (hi - lo - 1) n ≡ false →
+pub laid_left : (g : Expansion) (row v r : List ℕ) (n lo hi : ℕ) → lo < hi → hi ≤ 24 → length row ≡ 768 → length r ≡ 32 → r ≡ g.right v → bit (hi - lo - 1) n ≡ false →
     laid g (paste row (32 * (hi - 1)) r 32) (g.left v) n lo (hi - 1) ≡ laid g row v n lo hi
-laid-left g row v r n lo hi l m z e q b =
+laid_left g row v r n lo hi l m z e q b =
     let k = hi - 1 - lo in
     let at = 32 * (hi - 1) in
     let k1 : hi - lo - 1 ≡ k = omega arith in
@@ -51,9 +51,9 @@ laid-left g row v r n lo hi l m z e q b =
     ap (λ (x : List ℕ). besides g k n (g.left v) ++ (x ++ drop (32 * hi) row)) q ∙ sym (append_assoc (besides g k n (g.left v)) (g.right v) (drop (32 * hi) row)) ∙ ap (λ (x : List ℕ). x ++ drop (32 * hi) row) (sym s) in
     ap₂ (λ (x y : List ℕ). x ++ y) a (ap (λ (x : List ℕ). besides g k n (g.left v) ++ x) h ∙ w)
 
-pub laid-right : (g : Expansion) (row v r : List ℕ) (n lo hi : ℕ) → lo < hi → hi ≤ 24 → length row ≡ 768 → length r ≡ 32 → r ≡ g.left v → bit (hi - lo - 1) n ≡ true →
+pub laid_right : (g : Expansion) (row v r : List ℕ) (n lo hi : ℕ) → lo < hi → hi ≤ 24 → length row ≡ 768 → length r ≡ 32 → r ≡ g.left v → bit (hi - lo - 1) n ≡ true →
     laid g (paste row (32 * lo) r 32) (g.right v) n (lo + 1) hi ≡ laid g row v n lo hi
-laid-right g row v r n lo hi l m z e q b =
+laid_right g row v r n lo hi l m z e q b =
     let k = hi - (lo + 1) in
     let at = 32 * lo in
     let k1 : hi - lo - 1 ≡ k = omega arith in
@@ -67,8 +67,8 @@ laid-right g row v r n lo hi l m z e q b =
     ap (λ (x : List ℕ). x ++ rest) q ∙ sym (append_assoc (g.left v) (besides g k n (g.right v)) (drop (32 * hi) row)) ∙ ap (λ (x : List ℕ). x ++ drop (32 * hi) row) (sym s) in
     ap₂ (λ (x y : List ℕ). x ++ y) a (ap (λ (x : List ℕ). besides g k n (g.right v) ++ x) h) ∙ append_assoc (take at row) r rest ∙ ap (λ (x : List ℕ). take at row ++ x) w
 
-pub laid-all : (g : Expansion) (row v : List ℕ) (n lo hi : ℕ) → lo ≡ hi → laid g row v n lo hi ≡ row
-laid-all g row v n lo hi q =
+pub laid_all : (g : Expansion) (row v : List ℕ) (n lo hi : ℕ) → lo ≡ hi → laid g row v n lo hi ≡ row
+laid_all g row v n lo hi q =
     let z : hi - hi ≡ 0 = omega arith in
     rw (q, z, take-append-drop (32 * hi) row)
 
@@ -79,8 +79,8 @@ laid_none g row v n k =
     rw z
 
 -- a row of zeros, filled from its start
-pub laid-clean : (b row : List ℕ) (k : ℕ) → k ≤ 24 → length row ≡ 768 → row ≡ b ++ drop (32 * k) (replicate 768 0) → row ≡ b ++ replicate (768 - length b) 0
-laid-clean b row k l m q =
+pub laid_clean : (b row : List ℕ) (k : ℕ) → k ≤ 24 → length row ≡ 768 → row ≡ b ++ drop (32 * k) (replicate 768 0) → row ≡ b ++ replicate (768 - length b) 0
+laid_clean b row k l m q =
     let z : drop (32 * k) (replicate {A = ℕ} 768 0) ≡ replicate (768 - 32 * k) 0 = drop-replicate (32 * k) 768 0 in
     let r : row ≡ b ++ replicate (768 - 32 * k) 0 = q ∙ ap (λ (x : List ℕ). b ++ x) z in
     let n : length b ≡ 32 * k = omega (arith, simp (length-append, length-replicate) at (ap length r)) in
@@ -90,5 +90,5 @@ laid-clean b row k l m q =
 pub walked : (g : Expansion) (v u : List ℕ) (n h k : ℕ) → 0 < h → k ≡ h - 1 → u ≡ step_of g (bit (h - 1) n) v → follow g u (way k 0 n) ≡ follow g v (way h 0 n)
 walked g v u n h k l q r = ap₂ (λ (x : List ℕ) (j : ℕ). follow g x (way j 0 n)) r q ∙ sym (key_step g v h n l)
 
-pub turned-to : (g : Expansion) (v u : List ℕ) (n h : ℕ) (b : Bool) → bit h n ≡ b → u ≡ step_of g (bit h n) v → u ≡ step_of g b v
-turned-to g v u n h b q r = r ∙ ap (λ (z : Bool). step_of g z v) q
+pub turned_to : (g : Expansion) (v u : List ℕ) (n h : ℕ) (b : Bool) → bit h n ≡ b → u ≡ step_of g (bit h n) v → u ≡ step_of g b v
+turned_to g v u n h b q r = r ∙ ap (λ (z : Bool). step_of g z v) q

@@ -6,5 +6,5 @@ abbrev pub Bytes : List ℕ → Type 0
 Bytes v = (k : ℕ) → slice_index v k < 256
 
 -- the length of a node's value
-abbrev pub valueLength : ℕ
-valueLength = 32
+abbrev pub value_length : ℕ
+value_length = 32

@@ -2,24 +2,24 @@
 use Rattle.std.specs.Prelude.{◌≡◌, ℕ, ◌*◌, List, Some, None, Option}
 use Rattle.octets.specs.Buffers.{zeros, filled}
 use Rattle.tree.specs.declared.Node.{Node}
-use Rattle.tree.specs.Nodes.{mostLevels, Above}
-use Rattle.tree.specs.Values.{Expansion, value_of, key_of, keyFrom, Counted, siblingValues}
-use Rattle.generator.specs.Bytes.{valueLength}
+use Rattle.tree.specs.Nodes.{most_levels, Above}
+use Rattle.tree.specs.Values.{Expansion, value_of, key_of, key_from, Counted, sibling_values}
+use Rattle.generator.specs.Bytes.{value_length}
 
 -- there is a way from x down to n; the calls made are counted; the value that was x's has become n's key
 pub record Descended (g : Expansion) (d : ℕ) (x : Node) (n : ℕ) (before : List ℕ) (calls : ℕ) (after : List ℕ) : Type 0 where
   pub way : Above d x n
   pub counted : Counted d x n calls
-  pub key : after ≡ keyFrom g d x before n
+  pub key : after ≡ key_from g d x before n
   -- in a tree with v at the root, where the value before was x's in that tree, it is now the key of n in that tree
-  pub ofTree : (v : List ℕ) → before ≡ value_of g d v x → after ≡ key_of g d v n
+  pub of_tree : (v : List ℕ) → before ≡ value_of g d v x → after ≡ key_of g d v n
 
 -- none where there is no such way; then the value is gone
 abbrev pub Descent : Expansion → ℕ → Node → ℕ → List ℕ → Option ℕ → List ℕ → Type 0
 Descent g d x n before (Some calls) after = Descended g d x n before calls after
-Descent g d x n before None after = (Above d x n → ⊥) × (after ≡ zeros valueLength)
+Descent g d x n before None after = (Above d x n → ⊥) × (after ≡ zeros value_length)
 
 -- what a row for as many values as the most levels then holds: the values of the siblings passed, in their order, and zeros
 abbrev pub Kept : Expansion → ℕ → Node → ℕ → List ℕ → Option ℕ → List ℕ → Type 0
-Kept g d x n before (Some calls) row = row ≡ filled (siblingValues g d x before n) (mostLevels * valueLength)
-Kept g d x n before None row = row ≡ zeros (mostLevels * valueLength)
+Kept g d x n before (Some calls) row = row ≡ filled (sibling_values g d x before n) (most_levels * value_length)
+Kept g d x n before None row = row ≡ zeros (most_levels * value_length)

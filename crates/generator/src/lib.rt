@@ -4,9 +4,9 @@
 ghost use Rattle.std.specs.Prelude.{◌≡◌, ℕ, ◌+◌, ◌*◌, ◌<◌, ◌≤◌, List, ◌++◌, length, drop};
 ghost use Rattle.std.proofs.Math.Seq.{paste};
 ghost use Rattle.octets.specs.Buffers.{zeros};
-ghost use Rattle.tree.specs.Nodes.{mostLevels};
+ghost use Rattle.tree.specs.Nodes.{most_levels};
 ghost use Rattle.tree.specs.Values.{Expansion, step_of, way, follow, besides};
-ghost use Rattle.generator.specs.Bytes.{Bytes, valueLength};
+ghost use Rattle.generator.specs.Bytes.{Bytes, value_length};
 ghost use Rattle.generator.specs.Descent.{Descent, Kept};
 
 use octets::clear;
@@ -31,7 +31,7 @@ pub trait Generator {
 
     ghost small: { (g : Self) → code g < 256 };
 
-    ghost long: { (g : Self) (v : List ℕ) → length v ≡ valueLength → (length ((expansion g).left v) ≡ valueLength) × (length ((expansion g).right v) ≡ valueLength) };
+    ghost long: { (g : Self) (v : List ℕ) → length v ≡ value_length → (length ((expansion g).left v) ≡ value_length) × (length ((expansion g).right v) ≡ value_length) };
 
     ghost bytes: { (g : Self) (v : List ℕ) → Bytes v → Bytes ((expansion g).left v) × Bytes ((expansion g).right v) };
 }
@@ -49,8 +49,8 @@ pub fn descend<G: Generator>(
     right: &mut [u8; 32],
 ) -> Option<u32>
     ensures answer { Descent (G.Generator.expansion g.now) height node.now n value.old result value.new }
-    ensures left { left.new ≡ zeros valueLength }
-    ensures right { right.new ≡ zeros valueLength }
+    ensures left { left.new ≡ zeros value_length }
+    ensures right { right.new ≡ zeros value_length }
 {
     if !node.covers(height, n) {
         clear(value);
@@ -74,7 +74,7 @@ fn go_down<G: Generator>(
     left: &mut [u8; 32],
     right: &mut [u8; 32],
 ) -> u32
-    requires { levels ≤ mostLevels }
+    requires { levels ≤ most_levels }
     ensures key { value.new ≡ follow (G.Generator.expansion g.now) value.old (way levels 0 n) }
     ensures calls { result ≡ length (way levels 0 n) }
 {
@@ -97,7 +97,7 @@ fn turn<G: Generator>(
     right: &mut [u8; 32],
     calls: &mut u32,
 )
-    requires { calls.old < mostLevels }
+    requires { calls.old < most_levels }
     ensures child { value.new ≡ step_of (G.Generator.expansion g.now) to_right value.old }
     ensures one { left.new ≡ (G.Generator.expansion g.now).left value.old }
     ensures two { right.new ≡ (G.Generator.expansion g.now).right value.old }
@@ -126,8 +126,8 @@ pub fn descend_keeping<G: Generator>(
 ) -> Option<u32>
     ensures answer { Descent (G.Generator.expansion g.now) height node.now n value.old result value.new }
     ensures kept { Kept (G.Generator.expansion g.now) height node.now n value.old result row.new }
-    ensures left { left.new ≡ zeros valueLength }
-    ensures right { right.new ≡ zeros valueLength }
+    ensures left { left.new ≡ zeros value_length }
+    ensures right { right.new ≡ zeros value_length }
 {
     clear(row);
     if !node.covers(height, n) {
@@ -154,10 +154,10 @@ fn keep_siblings<G: Generator>(
     right: &mut [u8; 32],
     row: &mut [u8; 768],
 ) -> u32
-    requires { levels ≤ mostLevels }
+    requires { levels ≤ most_levels }
     ensures key { value.new ≡ follow (G.Generator.expansion g.now) value.old (way levels 0 n) }
     ensures calls { result ≡ length (way levels 0 n) }
-    ensures row { row.new ≡ besides (G.Generator.expansion g.now) levels n value.old ++ drop (valueLength * levels) row.old }
+    ensures row { row.new ≡ besides (G.Generator.expansion g.now) levels n value.old ++ drop (value_length * levels) row.old }
 {
     let mut calls = 0;
     let mut lo = 0;
@@ -178,8 +178,8 @@ fn keep_siblings<G: Generator>(
 
 // Puts a value into place `k` of the row.
 fn put_value(row: &mut [u8; 768], k: usize, value: &[u8; 32])
-    requires { k < mostLevels }
-    ensures { row.new ≡ paste row.old (valueLength * k) value.now valueLength }
+    requires { k < most_levels }
+    ensures { row.new ≡ paste row.old (value_length * k) value.now value_length }
 {
     row[32 * k..32 * k + 32].copy_from_slice(value);
 }

@@ -4,13 +4,13 @@
 ghost use Rattle.std.specs.Prelude.{◌≡◌, ◌<◌, [], ◌∷◌, ◌++◌, length};
 ghost use Rattle.std.proofs.Common.{◌∙◌, arith, length-drop, rules};
 ghost use Rattle.sha.specs.Digest.{sha256};
-ghost use Rattle.generators.specs.Named.{chachaExpansion, shaExpansion, chachaCode, shaCode, childBlock};
+ghost use Rattle.generators.specs.Named.{chacha_expansion, sha_expansion, chacha_code, sha_code, child_block};
 ghost use Rattle.std.proofs.lemmas.List.{length-take-le};
 ghost use Rattle.octets.specs.Buffers.{zeros};
-ghost use Rattle.chacha.proofs.Blocks.{block-long, block-bytes};
+ghost use Rattle.chacha.proofs.Blocks.{block_long, block_bytes};
 ghost use Rattle.std.proofs.ByRecursion.{All-take, All-drop};
-ghost use Rattle.octets.proofs.Small.{each-small};
-ghost use Rattle.sha.proofs.Digests.{digest-long, digest-bytes};
+ghost use Rattle.octets.proofs.Small.{each_small};
+ghost use Rattle.sha.proofs.Digests.{digest_long, digest_bytes};
 
 use generator::Generator;
 use sha::Sha256;
@@ -26,19 +26,19 @@ const SHA: u8 = 2;
 pub struct ChaChaGenerator;
 
 impl Generator for ChaChaGenerator {
-    ghost expansion = { λ _. chachaExpansion };
+    ghost expansion = { λ _. chacha_expansion };
 
-    ghost code = { λ _. chachaCode };
+    ghost code = { λ _. chacha_code };
 
     ghost small = { Prim.search rules };
 
     ghost long = { λ g v l.
-        let k : length (childBlock v) ≡ 64 = block-long v 0 (zeros 12) in
-        (length-take-le 32 (childBlock v) (omega arith), length-drop 32 (childBlock v) ∙ omega arith) };
+        let k : length (child_block v) ≡ 64 = block_long v 0 (zeros 12) in
+        (length-take-le 32 (child_block v) (omega arith), length-drop 32 (child_block v) ∙ omega arith) };
 
     ghost bytes = { λ g v b.
-        let a = block-bytes v 0 (zeros 12) in
-        (each-small _ (All-take (λ b. b < 256) 32 (childBlock v) a), each-small _ (All-drop (λ b. b < 256) 32 (childBlock v) a)) };
+        let a = block_bytes v 0 (zeros 12) in
+        (each_small _ (All-take (λ b. b < 256) 32 (child_block v) a), each_small _ (All-drop (λ b. b < 256) 32 (child_block v) a)) };
 
     fn number(&self) -> u8 {
         CHACHA
@@ -55,15 +55,15 @@ impl Generator for ChaChaGenerator {
 pub struct ShaGenerator;
 
 impl Generator for ShaGenerator {
-    ghost expansion = { λ _. shaExpansion };
+    ghost expansion = { λ _. sha_expansion };
 
-    ghost code = { λ _. shaCode };
+    ghost code = { λ _. sha_code };
 
     ghost small = { Prim.search rules };
 
-    ghost long = { λ g v l. (digest-long (v ++ 0 ∷ []), digest-long (v ++ 1 ∷ [])) };
+    ghost long = { λ g v l. (digest_long (v ++ 0 ∷ []), digest_long (v ++ 1 ∷ [])) };
 
-    ghost bytes = { λ g v b. (each-small _ (digest-bytes (v ++ 0 ∷ [])), each-small _ (digest-bytes (v ++ 1 ∷ []))) };
+    ghost bytes = { λ g v b. (each_small _ (digest_bytes (v ++ 0 ∷ [])), each_small _ (digest_bytes (v ++ 1 ∷ []))) };
 
     fn number(&self) -> u8 {
         SHA

@@ -3,24 +3,24 @@ use Rattle.std.specs.Prelude.{ℕ, ◌-◌, cond, List, ◌++◌, map, length, r
 use Rattle.sha.specs.Digest.{sha256}
 
 -- the key as it is used: one longer than a block is hashed first
-unfoldable pub shortKey : List ℕ → List ℕ
-shortKey k = cond (nat_le (length k) 64) k (sha256 k)
+unfoldable pub short_key : List ℕ → List ℕ
+short_key k = cond (nat_le (length k) 64) k (sha256 k)
 
 -- the key with zeros up to the length of a block
-unfoldable pub keyBlock : List ℕ → List ℕ
-keyBlock k = shortKey k ++ replicate (64 - length (shortKey k)) 0
+unfoldable pub key_block : List ℕ → List ℕ
+key_block k = short_key k ++ replicate (64 - length (short_key k)) 0
 
 -- each byte XOR b
 unfoldable pub masked : ℕ → List ℕ → List ℕ
 masked b bs = map (λ x. bit_xor x b) bs
 
 -- the key block XOR ipad, and the key block XOR opad
-unfoldable pub innerBlock : List ℕ → List ℕ
-innerBlock k = masked 0x36 (keyBlock k)
+unfoldable pub inner_block : List ℕ → List ℕ
+inner_block k = masked 0x36 (key_block k)
 
-unfoldable pub outerBlock : List ℕ → List ℕ
-outerBlock k = masked 0x5c (keyBlock k)
+unfoldable pub outer_block : List ℕ → List ℕ
+outer_block k = masked 0x5c (key_block k)
 
 -- H(K XOR opad, H(K XOR ipad, m))
 unfoldable pub hmac : List ℕ → List ℕ → List ℕ
-hmac k m = sha256 (outerBlock k ++ sha256 (innerBlock k ++ m))
+hmac k m = sha256 (outer_block k ++ sha256 (inner_block k ++ m))

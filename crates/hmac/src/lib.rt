@@ -2,7 +2,7 @@
 #![tactic(auto)]
 
 ghost use Rattle.std.specs.Prelude.{◌≡◌, ℕ, List, [], ◌++◌, replicate};
-ghost use Rattle.hmac.specs.Mac.{keyBlock, masked, hmac};
+ghost use Rattle.hmac.specs.Mac.{key_block, masked, hmac};
 ghost use Rattle.hmac.specs.Laws.{MacLaws};
 
 use octets::{Known, Wiped};
@@ -86,7 +86,7 @@ impl Hmac {
 
 // Writes the key block: the key, or the digest of a key longer than a block, and zeros after it.
 fn key_block(key: &[u8], pad: &mut [u8; 64])
-    ensures { pad.new ≡ keyBlock key.now }
+    ensures { pad.new ≡ key_block key.now }
 {
     if key.len() > 64 {
         let mut h = Sha256::new();

@@ -5,10 +5,10 @@
 
 ghost use Rattle.std.specs.Prelude.{◌≡◌};
 ghost use Rattle.octets.specs.Fields.{bytes_of};
-ghost use Rattle.hmacseal.specs.Meaning.{streamBlock, tag_of, sealedBytes};
-ghost use Rattle.hmacseal.specs.Lengths.{stream-long, tag-long};
+ghost use Rattle.hmacseal.specs.Meaning.{stream_block, tag_of, sealed_bytes};
+ghost use Rattle.hmacseal.specs.Lengths.{stream_long, tag_long};
 ghost use Rattle.std.proofs.Common.{rules};
-ghost use Rattle.sealing.proofs.Covers.{sealing-long};
+ghost use Rattle.sealing.proofs.Covers.{sealing_long};
 ghost use Rattle.sealing.proofs.Covers;
 
 use hmac::Hmac;
@@ -45,7 +45,7 @@ fn place(index: u16) -> [u8; 4]
 }
 
 impl Scheme for HmacSealer {
-    ghost block = { λ _ key i. streamBlock key i };
+    ghost block = { λ _ key i. stream_block key i };
 
     ghost size = { λ _. 32 };
 
@@ -59,9 +59,9 @@ impl Scheme for HmacSealer {
 
     ghost limited = { Prim.search rules };
 
-    ghost whole = { λ s key index. stream-long key index };
+    ghost whole = { λ s key index. stream_long key index };
 
-    ghost tagged = { λ s key heading bytes. tag-long key heading bytes };
+    ghost tagged = { λ s key heading bytes. tag_long key heading bytes };
 
     fn size(&self) -> usize {
         BLOCK_SIZE
@@ -71,7 +71,7 @@ impl Scheme for HmacSealer {
         TAG_SIZE
     }
 
-    #[tactic(auto, using(crate::proofs::Macs::mac_filled), unfolding(crate::specs::Meaning::streamBlock))]
+    #[tactic(auto, using(crate::proofs::Macs::mac_filled), unfolding(crate::specs::Meaning::stream_block))]
     fn block(&self, key: &[u8; 32], index: u16, pad: &mut [u8; 64]) {
         let mut mac = Hmac::new(key, pad);
         mac.update(&[STREAM]);
@@ -97,7 +97,7 @@ impl Scheme for HmacSealer {
 }
 
 impl Sealer for HmacSealer {
-    ghost sealing = { λ _ key heading plain. sealedBytes key heading plain };
+    ghost sealing = { λ _ key heading plain. sealed_bytes key heading plain };
 
     ghost overhead = { λ _. 32 };
 
@@ -107,9 +107,9 @@ impl Sealer for HmacSealer {
 
     ghost limited = { Prim.search rules };
 
-    ghost long = { λ s key heading plain k h p. sealing-long (streamBlock key) 32 (tag_of key heading) 32 (tag-long key heading) plain };
+    ghost long = { λ s key heading plain k h p. sealing_long (stream_block key) 32 (tag_of key heading) 32 (tag_long key heading) plain };
 
-    ghost apart = { λ s key heading plain other k h p q same. Covers.apart (streamBlock key) 32 (tag_of key heading) 32 (tag-long key heading) plain other same };
+    ghost apart = { λ s key heading plain other k h p q same. Covers.apart (stream_block key) 32 (tag_of key heading) 32 (tag_long key heading) plain other same };
 
     fn number(&self) -> u8 {
         NUMBER

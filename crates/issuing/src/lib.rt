@@ -6,15 +6,15 @@
 
 ghost use Rattle.std.specs.Prelude.{◌≡◌, ℕ, ◌+◌, ◌-◌, ◌^◌, ◌<◌, ◌≤◌, Bool, true, List, [], ◌++◌, length, replicate, slice_index_or};
 ghost use Rattle.octets.specs.Buffers.{zeros, filled};
-ghost use Rattle.session.specs.Limits.{mostLength};
+ghost use Rattle.session.specs.Limits.{most_length};
 ghost use Rattle.layout.specs.Records.{value_of};
-ghost use Rattle.rules.specs.Tickets.{headingOf, ticketMost};
+ghost use Rattle.rules.specs.Tickets.{heading_of, ticket_most};
 ghost use Rattle.rules.specs.Files.{recounted};
-ghost use Rattle.rules.specs.Kits.{kitOf};
+ghost use Rattle.rules.specs.Kits.{kit_of};
 ghost use Rattle.rules.specs.Calls.{Issuing, kept};
 ghost use Rattle.scratch.specs.Clean.{Clean};
-ghost use Rattle.tree.specs.Nodes.{treeLevels};
-ghost use Rattle.issuing.specs.Ends.{Issuable, IssueEnds, issueEntry};
+ghost use Rattle.tree.specs.Nodes.{tree_levels};
+ghost use Rattle.issuing.specs.Ends.{Issuable, IssueEnds, issue_entry};
 
 use chain::{Found, LEAVES, read_file};
 use device::{ReadSlots, WriteSlots};
@@ -36,7 +36,7 @@ pub const TICKET_MOST: usize = HEADING + PLAIN_LIMIT + OVERHEAD_LIMIT;
 
 /// The length of the longest ticket.
 pub fn limits_stand() -> u8
-    ensures { TICKET_MOST ≡ ticketMost }
+    ensures { TICKET_MOST ≡ ticket_most }
 {
     0
 }
@@ -65,7 +65,7 @@ fn load_value<D: ReadSlots>(
 
 // The head with one number more issued than `issued`, in the lent slot.
 fn next_head<D: ReadSlots>(d: &D, issued: u32, slot: &mut [u8; 64]) -> Result<(), Halt>
-    requires { (0 < length (D.slots d.now)) × ((D.powered d.now ≡ true) × (issued < 2 ^ treeLevels)) }
+    requires { (0 < length (D.slots d.now)) × ((D.powered d.now ≡ true) × (issued < 2 ^ tree_levels)) }
     ensures { (result ≡ Ok tt) × (slot.new ≡ recounted (issued + 1) (slice_index_or (D.slots d.now) 0 [])) }
 {
     read_at(d, 0, slot)?;
@@ -83,9 +83,9 @@ fn seal_ticket<S: Sealer>(
     ticket: &mut [u8],
     pad: &mut [u8; 64],
 ) -> usize
-    requires { (ticketMost ≤ length ticket.old) × (length plain.now ≤ mostLength) }
-    ensures is { ticket.new ≡ filled (headingOf name.now number ++ S.Sealer.sealing s.now key.now (headingOf name.now number) plain.now) (length ticket.old) }
-    ensures long { result ≡ length (headingOf name.now number ++ S.Sealer.sealing s.now key.now (headingOf name.now number) plain.now) }
+    requires { (ticket_most ≤ length ticket.old) × (length plain.now ≤ most_length) }
+    ensures is { ticket.new ≡ filled (heading_of name.now number ++ S.Sealer.sealing s.now key.now (heading_of name.now number) plain.now) (length ticket.old) }
+    ensures long { result ≡ length (heading_of name.now number ++ S.Sealer.sealing s.now key.now (heading_of name.now number) plain.now) }
 {
     let mut head = [0; HEADING];
     heading(name, number, &mut head);
@@ -109,7 +109,7 @@ fn issue_found<D: WriteSlots, G: Generator, S: Sealer>(
     scratch: &mut Scratch,
 ) -> Result<(usize, u32), Halt>
     requires { Issuable (D.ReadSlots.slots d.old) (D.ReadSlots.powered d.old) head.now found.now plain.now (length ticket.old) }
-    ensures { IssueEnds (kitOf (G.Generator.expansion g.now) (G.Generator.code g.now) (S.Sealer.sealing s.now) (S.Sealer.overhead s.now) (S.Sealer.number s.now)) (D.ReadSlots.slots d.old) head.now found.now plain.now (length ticket.old) result ticket.new (D.ReadSlots.slots d.new) (D.ReadSlots.powered d.new) }
+    ensures { IssueEnds (kit_of (G.Generator.expansion g.now) (G.Generator.code g.now) (S.Sealer.sealing s.now) (S.Sealer.overhead s.now) (S.Sealer.number s.now)) (D.ReadSlots.slots d.old) head.now found.now plain.now (length ticket.old) result ticket.new (D.ReadSlots.slots d.new) (D.ReadSlots.powered d.new) }
 {
     load_value(d, found.slot, &mut scratch.slot, &mut scratch.key)?;
     let calls = descend(
@@ -137,7 +137,7 @@ fn issue_found<D: WriteSlots, G: Generator, S: Sealer>(
 
 // What stops an issue before it reads: the buffers, the slot count, the record.
 fn may_issue<D: ReadSlots>(d: &D, plain: &[u8], ticket: usize, marks: usize) -> Result<(), Halt>
-    ensures { result ≡ issueEntry treeLevels (D.slots d.now) plain.now ticket marks }
+    ensures { result ≡ issue_entry tree_levels (D.slots d.now) plain.now ticket marks }
 {
     if ticket < TICKET_MOST || marks < room(d.count()) {
         return Err(Halt::plain(Refusal::ShortBuffer));
@@ -159,7 +159,7 @@ fn issue_into<D: WriteSlots, G: Generator, S: Sealer>(
     marks: &mut [u8],
     scratch: &mut Scratch,
 ) -> Result<(usize, u32), Halt>
-    ensures { (headed : Bool) × Issuing (kitOf (G.Generator.expansion g.now) (G.Generator.code g.now) (S.Sealer.sealing s.now) (S.Sealer.overhead s.now) (S.Sealer.number s.now)) treeLevels (D.ReadSlots.slots d.old) (D.ReadSlots.powered d.old) plain.now (length ticket.old) (length marks.old) result (kept result (length ticket.old) ticket.new) (D.ReadSlots.slots d.new) (D.ReadSlots.powered d.new) headed }
+    ensures { (headed : Bool) × Issuing (kit_of (G.Generator.expansion g.now) (G.Generator.code g.now) (S.Sealer.sealing s.now) (S.Sealer.overhead s.now) (S.Sealer.number s.now)) tree_levels (D.ReadSlots.slots d.old) (D.ReadSlots.powered d.old) plain.now (length ticket.old) (length marks.old) result (kept result (length ticket.old) ticket.new) (D.ReadSlots.slots d.new) (D.ReadSlots.powered d.new) headed }
 {
     may_issue(d, plain, ticket.len(), marks.len())?;
     let survey = read_file(d, g.number(), s.number(), None, marks, &mut scratch.slot)?;
@@ -183,7 +183,7 @@ pub fn issue_on<D: WriteSlots, G: Generator, S: Sealer>(
     marks: &mut [u8],
     scratch: &mut Scratch,
 ) -> Result<(usize, u32), Halt>
-    ensures did { (headed : Bool) × Issuing (kitOf (G.Generator.expansion g.now) (G.Generator.code g.now) (S.Sealer.sealing s.now) (S.Sealer.overhead s.now) (S.Sealer.number s.now)) treeLevels (D.ReadSlots.slots d.old) (D.ReadSlots.powered d.old) plain.now (length ticket.old) (length marks.old) result ticket.new (D.ReadSlots.slots d.new) (D.ReadSlots.powered d.new) headed }
+    ensures did { (headed : Bool) × Issuing (kit_of (G.Generator.expansion g.now) (G.Generator.code g.now) (S.Sealer.sealing s.now) (S.Sealer.overhead s.now) (S.Sealer.number s.now)) tree_levels (D.ReadSlots.slots d.old) (D.ReadSlots.powered d.old) plain.now (length ticket.old) (length marks.old) result ticket.new (D.ReadSlots.slots d.new) (D.ReadSlots.powered d.new) headed }
     ensures marks { marks.new ≡ zeros (length marks.old) }
     ensures clean { Clean scratch.new }
 {

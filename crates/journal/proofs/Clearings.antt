@@ -3,55 +3,55 @@ use Rattle.std.proofs.Common.{◌≡◌, ℕ, ◌+◌, ◌<◌, ◌≤◌, cond,
 use Rattle.std.proofs.Math.Seq.{set_out}
 use Rattle.std.proofs.lemmas.Bool.{cases_lt, lt-ltb, le-ltb}
 use Rattle.device.specs.Effects.{Slot, Slots, blank}
-use Rattle.journal.specs.Layout.{markIn, copyIn, placesIn, pendingIn, shown}
-use Rattle.journal.specs.Writes.{Write, writeOf, clearWritesOf, clearWrites, stood}
-use Rattle.journal.proofs.Views.{length-shown, length-placesIn, parts_of, slot_written, shown_raised, zeros_done, zeros_cut}
+use Rattle.journal.specs.Layout.{mark_in, copy_in, places_in, pending_in, shown}
+use Rattle.journal.specs.Writes.{Write, write_of, clear_writes_of, clear_writes, stood}
+use Rattle.journal.proofs.Views.{length_shown, length_places_in, parts_of, slot_written, shown_raised, zeros_done, zeros_cut}
 use Rattle.journal.proofs.Runs.{AtEachCut, none, next}
 
-pub clear_none : (s : Slots) → clearWritesOf None s ≡ []
-unfolding clearWritesOf
+pub clear_none : (s : Slots) → clear_writes_of None s ≡ []
+unfolding clear_writes_of
 clear_none s = refl
 
-pub clear_in : (i : ℕ) (s : Slots) → i < length (shown s) → clearWritesOf (Some i) s ≡ writeOf (i + 2) (copyIn s) ∷ writeOf 0 blank ∷ []
-unfolding clearWritesOf
-clear_in i s h = ap (λ v. cond v (writeOf (i + 2) (copyIn s) ∷ []) [] ++ (writeOf 0 blank ∷ [])) (lt-ltb i (length (shown s)) h)
+pub clear_in : (i : ℕ) (s : Slots) → i < length (shown s) → clear_writes_of (Some i) s ≡ write_of (i + 2) (copy_in s) ∷ write_of 0 blank ∷ []
+unfolding clear_writes_of
+clear_in i s h = ap (λ v. cond v (write_of (i + 2) (copy_in s) ∷ []) [] ++ (write_of 0 blank ∷ [])) (lt-ltb i (length (shown s)) h)
 
-pub clear_out : (i : ℕ) (s : Slots) → length (shown s) ≤ i → clearWritesOf (Some i) s ≡ writeOf 0 blank ∷ []
-unfolding clearWritesOf
-clear_out i s h = ap (λ v. cond v (writeOf (i + 2) (copyIn s) ∷ []) [] ++ (writeOf 0 blank ∷ [])) (le-ltb i (length (shown s)) h)
+pub clear_out : (i : ℕ) (s : Slots) → length (shown s) ≤ i → clear_writes_of (Some i) s ≡ write_of 0 blank ∷ []
+unfolding clear_writes_of
+clear_out i s h = ap (λ v. cond v (write_of (i + 2) (copy_in s) ∷ []) [] ++ (write_of 0 blank ∷ [])) (le-ltb i (length (shown s)) h)
 
 pub ruleset clearing = (clear_none, clear_in, clear_out)
 
 -- writes that change nothing that is shown, wherever they are cut, and leave a copy that stands for no slot
 pub record Settles (s : Slots) (ws : List Write) : Type 0 where
   pub same : AtEachCut (λ t. shown t ≡ shown s) s ws
-  pub low : pendingIn (markIn (stood s ws)) ≡ None
+  pub low : pending_in (mark_in (stood s ws)) ≡ None
 
 -- zeros to the mark u, where each slot's own place holds what is shown
-zeros_settle : (s u : Slots) → 2 < length u → shown u ≡ shown s → placesIn u ≡ shown s → AtEachCut (λ t. shown t ≡ shown s) u (writeOf 0 blank ∷ [])
+zeros_settle : (s u : Slots) → 2 < length u → shown u ≡ shown s → places_in u ≡ shown s → AtEachCut (λ t. shown t ≡ shown s) u (write_of 0 blank ∷ [])
 zeros_settle s u some same places = next (zeros_cut u (shown s) some places same) (none (zeros_done u (shown s) some places))
 
-zeros_low : (u : Slots) → 2 < length u → pendingIn (markIn (set u 0 blank)) ≡ None
-zeros_low u some = ap pendingIn (get_or-set_same u 0 blank [] (omega arith))
+zeros_low : (u : Slots) → 2 < length u → pending_in (mark_in (set u 0 blank)) ≡ None
+zeros_low u some = ap pending_in (get_or-set_same u 0 blank [] (omega arith))
 
-module _ (s : Slots) (i : ℕ) (is : pendingIn (markIn s) ≡ Some i) (some : 2 < length s) where
-  was : shown s ≡ set (placesIn s) i (copyIn s)
+module _ (s : Slots) (i : ℕ) (is : pending_in (mark_in s) ≡ Some i) (some : 2 < length s) where
+  was : shown s ≡ set (places_in s) i (copy_in s)
   was = shown_raised i (parts_of s some) is
 
-  settles_out : length (shown s) ≤ i → Settles s (writeOf 0 blank ∷ [])
+  settles_out : length (shown s) ≤ i → Settles s (write_of 0 blank ∷ [])
   settles_out h = record {
-    same = zeros_settle s s some refl (sym (was ∙ set_out (placesIn s) i (copyIn s) (omega (arith, length-placesIn s, length-shown s))));
+    same = zeros_settle s s some refl (sym (was ∙ set_out (places_in s) i (copy_in s) (omega (arith, length_places_in s, length_shown s))));
     low = zeros_low s some;
   }
 
-  settles_in : i < length (shown s) → Settles s (writeOf (i + 2) (copyIn s) ∷ writeOf 0 blank ∷ [])
+  settles_in : i < length (shown s) → Settles s (write_of (i + 2) (copy_in s) ∷ write_of 0 blank ∷ [])
   settles_in h =
-      let at = λ (x : Slot). slot_written (parts_of s some) x i (omega (arith, length-shown s)) in
-      let kept = λ (x : Slot). shown_raised i (at x) is ∙ set-set (placesIn s) i x (copyIn s) ∙ sym was in
-      let x = copyIn s in
+      let at = λ (x : Slot). slot_written (parts_of s some) x i (omega (arith, length_shown s)) in
+      let kept = λ (x : Slot). shown_raised i (at x) is ∙ set-set (places_in s) i x (copy_in s) ∙ sym was in
+      let x = copy_in s in
       record { same = next (λ k. kept _) (zeros_settle s (set s (i + 2) x) (at x).long (kept x) ((at x).places ∙ sym was)); low = zeros_low (set s (i + 2) x) (at x).long }
 
-settles_of : (s : Slots) (o : Option ℕ) → pendingIn (markIn s) ≡ o → 2 < length s → Settles s (clearWritesOf o s)
+settles_of : (s : Slots) (o : Option ℕ) → pending_in (mark_in s) ≡ o → 2 < length s → Settles s (clear_writes_of o s)
 settles_of s None e some = subst (Settles s) (sym (clear_none s)) (record { same = none refl; low = e })
 settles_of s (Some i) e some =
     ⊎_elim
@@ -59,5 +59,5 @@ settles_of s (Some i) e some =
     (λ h. subst (Settles s) (sym (clear_out i s h)) (settles_out s i e some h))
     (cases_lt i (length (shown s)))
 
-pub settles : (s : Slots) → 2 < length s → Settles s (clearWrites s)
-settles s some = settles_of s (pendingIn (markIn s)) refl some
+pub settles : (s : Slots) → 2 < length s → Settles s (clear_writes s)
+settles s some = settles_of s (pending_in (mark_in s)) refl some

@@ -3,13 +3,13 @@ use Rattle.std.specs.Prelude.{◌≡◌, ℕ, zero, suc, ◌⊎◌, List, ◌∷
 use Rattle.std.proofs.Common.{ap, inl, inr, arith}
 use Rattle.std.proofs.lemmas.List.{take-append-drop}
 use Rattle.device.specs.Effects.{Slot, torn}
-use Rattle.journal.specs.Layout.{mark_of, pendingIn}
+use Rattle.journal.specs.Layout.{mark_of, pending_in}
 
-pub pendingIn-raised : (i : ℕ) → pendingIn (mark_of 1 i) ≡ Some i
-pendingIn-raised i = ap Some (omega arith)
+pub pending_in_raised : (i : ℕ) → pending_in (mark_of 1 i) ≡ Some i
+pending_in_raised i = ap Some (omega arith)
 
 -- a mark with no flag over one whose copy stands for none: it still stands for none
-pub torn_low : (m : ℕ) (rest : List ℕ) (old : Slot) → pendingIn old ≡ None → pendingIn (torn m old (0 ∷ rest)) ≡ None
+pub torn_low : (m : ℕ) (rest : List ℕ) (old : Slot) → pending_in old ≡ None → pending_in (torn m old (0 ∷ rest)) ≡ None
 torn_low zero rest old e = e
 torn_low (suc m) rest old e = refl
 
@@ -19,6 +19,6 @@ torn_raise zero rest = inl refl
 torn_raise (suc m) rest = inr (ap (λ t. 1 ∷ t) (take-append-drop m rest))
 
 -- a mark with no flag over any other: the old mark, or one whose copy stands for none
-pub torn_clear : (m : ℕ) (rest : List ℕ) (old : Slot) → (torn m old (0 ∷ rest) ≡ old) ⊎ (pendingIn (torn m old (0 ∷ rest)) ≡ None)
+pub torn_clear : (m : ℕ) (rest : List ℕ) (old : Slot) → (torn m old (0 ∷ rest) ≡ old) ⊎ (pending_in (torn m old (0 ∷ rest)) ≡ None)
 torn_clear zero rest old = inl refl
 torn_clear (suc m) rest old = inr refl

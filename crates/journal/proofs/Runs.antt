@@ -8,15 +8,15 @@ use Rattle.device.specs.declared.DeviceFault.{DeviceFault}
 use Rattle.device.specs.declared.DeviceFault.TheVariants.{NoSuchSlot, NoPower}
 use Rattle.device.specs.Effects.{Slot, Slots, Answer, Tearing, torn}
 use Rattle.journal.specs.Layout.{shown}
-use Rattle.journal.specs.Writes.{Write, clearWrites, placeWrites, Within, stood, CutShort, Ran, WritingBelow}
+use Rattle.journal.specs.Writes.{Write, clear_writes, place_writes, Within, stood, CutShort, Ran, WritingBelow}
 
-pub stood-append : (s : Slots) (ws vs : List Write) → stood s (ws ++ vs) ≡ stood (stood s ws) vs
-stood-append s [] vs = refl
-stood-append s (w ∷ ws) vs = stood-append (set s w.slot w.bytes) ws vs
+pub stood_append : (s : Slots) (ws vs : List Write) → stood s (ws ++ vs) ≡ stood (stood s ws) vs
+stood_append s [] vs = refl
+stood_append s (w ∷ ws) vs = stood_append (set s w.slot w.bytes) ws vs
 
-pub length-stood : (s : Slots) (ws : List Write) → length (stood s ws) ≡ length s
-length-stood s [] = refl
-length-stood s (w ∷ ws) = length-stood (set s w.slot w.bytes) ws ∙ length-set s w.slot w.bytes
+pub length_stood : (s : Slots) (ws : List Write) → length (stood s ws) ≡ length s
+length_stood s [] = refl
+length_stood s (w ∷ ws) = length_stood (set s w.slot w.bytes) ws ∙ length-set s w.slot w.bytes
 
 Within_at : (n : ℕ) (ws vs : List Write) (w : Write) → Within n (ws ++ (w ∷ vs)) → w.slot < n
 Within_at n [] vs w h = h.0
@@ -25,7 +25,7 @@ Within_at n (v ∷ ws) vs w h = Within_at n ws vs w h.1
 -- the next write fails
 cut_short : (s u : Slots) (front back : List Write) (w : Write) (on : Bool) (e : DeviceFault) (t : Slots) (on' : Bool) → Within (length s) (front ++ (w ∷ back)) → u ≡ stood s front → on ≡ true → Tearing u on w.slot w.bytes (Err e) t on' → Ran s (front ++ (w ∷ back)) (Err e) t on'
 cut_short s u front back w on NoSuchSlot t on' h at o (inl d) =
-    let z = Within_at (length s) front back w h in absurd (omega (arith, d.0, ap length at, length-stood s front))
+    let z = Within_at (length s) front back w h in absurd (omega (arith, d.0, ap length at, length_stood s front))
 cut_short s u front back w on NoPower t on' h at o (inl d) = absurd (both_ways on d.0.1 o)
 cut_short s u front back w on e t on' h at o (inr d) =
     (d.0, record { front = front; cut = w; back = back; are = refl; standing = d.3.0; few = d.3.1; slots = rw (← at) d.3.2 }, d.4)
@@ -33,7 +33,7 @@ cut_short s u front back w on e t on' h at o (inr d) =
 -- a row that is gone through: at its k-th write
 module _ {X : Type 0} (f : X → Write) (s : Slots) (xs : List X) (k : ℕ) (d : X) (u : Slots) (at : u ≡ stood s (map f (take k xs))) (h : k < length xs) where
   pub stood_more : (t : Slots) → t ≡ set u (f (get_or xs k d)).slot (f (get_or xs k d)).bytes → t ≡ stood s (map f (take (k + 1) xs))
-  stood_more t e = e ∙ ap (λ y. set y (f (get_or xs k d)).slot (f (get_or xs k d)).bytes) at ∙ sym (stood-append s (map f (take k xs)) (f (get_or xs k d) ∷ [])) ∙ ap (stood s) (sym (map_more f xs k d h))
+  stood_more t e = e ∙ ap (λ y. set y (f (get_or xs k d)).slot (f (get_or xs k d)).bytes) at ∙ sym (stood_append s (map f (take k xs)) (f (get_or xs k d) ∷ [])) ∙ ap (stood s) (sym (map_more f xs k d h))
 
   around : map f (take k xs) ++ (f (get_or xs k d) ∷ map f (drop (suc k) xs)) ≡ map f xs
   around = sym (map-append f (take k xs) (get_or xs k d ∷ drop (suc k) xs)) ∙ ap (λ y. map f (take k xs ++ y)) (sym (drop-cons xs k d h)) ∙ ap (map f) (take-append-drop k xs)
@@ -44,11 +44,11 @@ module _ {X : Type 0} (f : X → Write) (s : Slots) (xs : List X) (k : ℕ) (d :
 
 -- the first writes done, and then the others
 ran_then : (s : Slots) (ws vs : List Write) (r : Answer) (t : Slots) (q : Bool) → Ran (stood s ws) vs r t q → Ran s (ws ++ vs) r t q
-ran_then s ws vs (Ok _) t q d = rw stood-append d
+ran_then s ws vs (Ok _) t q d = rw stood_append d
 ran_then s ws vs (Err e) t q d =
     let c = d.1 in
     let are = ap (λ x. ws ++ x) c.are ∙ sym (append_assoc ws c.front (c.cut ∷ c.back)) in
-    (d.0, record { front = ws ++ c.front; cut = c.cut; back = c.back; are = are; standing = c.standing; few = c.few; slots = rw stood-append c.slots }, d.2)
+    (d.0, record { front = ws ++ c.front; cut = c.cut; back = c.back; are = are; standing = c.standing; few = c.few; slots = rw stood_append c.slots }, d.2)
 
 -- a failure among the first
 cut_more : (s : Slots) (ws vs : List Write) (t : Slots) → CutShort s ws t → CutShort s (ws ++ vs) t
@@ -76,25 +76,25 @@ pub AtEachCut_ran : {P : Slots → Type 0} {s : Slots} {ws : List Write} (r : An
 AtEachCut_ran {P} (Ok _) t q h d = subst P (sym d.0) (AtEachCut_done h)
 AtEachCut_ran (Err e) t q h d = AtEachCut_short h d.1
 
-pub AtEachCut-append : {P : Slots → Type 0} {s : Slots} (ws vs : List Write) → AtEachCut P s ws → AtEachCut P (stood s ws) vs → AtEachCut P s (ws ++ vs)
-AtEachCut-append [] vs a b = b
-AtEachCut-append (w ∷ ws) vs (next f a) b = next f (AtEachCut-append ws vs a b)
+pub at_each_cut_append : {P : Slots → Type 0} {s : Slots} (ws vs : List Write) → AtEachCut P s ws → AtEachCut P (stood s ws) vs → AtEachCut P s (ws ++ vs)
+at_each_cut_append [] vs a b = b
+at_each_cut_append (w ∷ ws) vs (next f a) b = next f (at_each_cut_append ws vs a b)
 
 pub AtEachCut_weaker : {P Q : Slots → Type 0} {s : Slots} {ws : List Write} → ((t : Slots) → P t → Q t) → AtEachCut P s ws → AtEachCut Q s ws
 AtEachCut_weaker f (none p) = none (f _ p)
 AtEachCut_weaker f (next g h) = next (λ m. f _ (g m)) (AtEachCut_weaker f h)
 
-pub Within-append : (n : ℕ) (ws vs : List Write) → Within n ws → Within n vs → Within n (ws ++ vs)
-Within-append n [] vs a b = b
-Within-append n (w ∷ ws) vs a b = (a.0, Within-append n ws vs a.1 b)
+pub within_append : (n : ℕ) (ws vs : List Write) → Within n ws → Within n vs → Within n (ws ++ vs)
+within_append n [] vs a b = b
+within_append n (w ∷ ws) vs a b = (a.0, within_append n ws vs a.1 b)
 
 -- clearing, and then placing
-pub write_done : (s : Slots) (on : Bool) (i : ℕ) (b : Slot) (r : Answer) (t : Slots) (q : Bool) → i < length (shown s) → on ≡ true → Ran (stood s (clearWrites s)) (placeWrites i b) r t q → WritingBelow s on i b r t q
-write_done s on i b (Ok u) t q h o d = (h, o, ran_then s (clearWrites s) (placeWrites i b) (Ok u) t q d)
-write_done s on i b (Err e) t q h o d = inr (h, o, ran_then s (clearWrites s) (placeWrites i b) (Err e) t q d)
+pub write_done : (s : Slots) (on : Bool) (i : ℕ) (b : Slot) (r : Answer) (t : Slots) (q : Bool) → i < length (shown s) → on ≡ true → Ran (stood s (clear_writes s)) (place_writes i b) r t q → WritingBelow s on i b r t q
+write_done s on i b (Ok u) t q h o d = (h, o, ran_then s (clear_writes s) (place_writes i b) (Ok u) t q d)
+write_done s on i b (Err e) t q h o d = inr (h, o, ran_then s (clear_writes s) (place_writes i b) (Err e) t q d)
 
-pub write_cut : (s : Slots) (on : Bool) (i : ℕ) (b : Slot) (r : Answer) (t : Slots) (q : Bool) → is_err r ≡ true → i < length (shown s) → on ≡ true → Ran s (clearWrites s) r t q → WritingBelow s on i b r t q
+pub write_cut : (s : Slots) (on : Bool) (i : ℕ) (b : Slot) (r : Answer) (t : Slots) (q : Bool) → is_err r ≡ true → i < length (shown s) → on ≡ true → Ran s (clear_writes s) r t q → WritingBelow s on i b r t q
 write_cut s on i b (Ok _) t q e h o d = absurd cc
-write_cut s on i b (Err x) t q e h o d = inr (h, o, (d.0, cut_more s (clearWrites s) (placeWrites i b) t d.1, d.2))
+write_cut s on i b (Err x) t q e h o d = inr (h, o, (d.0, cut_more s (clear_writes s) (place_writes i b) t d.1, d.2))
 
-pub ruleset steps = (write_done, write_cut, length-stood)
+pub ruleset steps = (write_done, write_cut, length_stood)

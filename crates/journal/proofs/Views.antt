@@ -4,46 +4,46 @@ use Rattle.std.proofs.Common.{sym, ap, ◌∙◌, inl, inr, add_comm, arith, len
 use Rattle.std.proofs.Math.Seq.{take-set-lt}
 use Rattle.std.proofs.lemmas.List.{drop-set-add}
 use Rattle.device.specs.Effects.{Slot, Slots, torn, blank}
-use Rattle.journal.specs.Layout.{mostSlots, markIn, copyIn, placesIn, pendingIn, view, shown}
+use Rattle.journal.specs.Layout.{most_slots, mark_in, copy_in, places_in, pending_in, view, shown}
 use Rattle.journal.proofs.Marks.{torn_clear}
 
-length-view : (o : Option ℕ) (b : Slots) (c : Slot) → length (view o b c) ≡ length b
+length_view : (o : Option ℕ) (b : Slots) (c : Slot) → length (view o b c) ≡ length b
 unfolding view
-length-view None b c = refl
-length-view (Some i) b c = length-set b i c
+length_view None b c = refl
+length_view (Some i) b c = length-set b i c
 
-pub length-placesIn : (s : Slots) → length (placesIn s) ≡ min mostSlots (length s - 2)
-length-placesIn s = simp (length-take, length-drop)
+pub length_places_in : (s : Slots) → length (places_in s) ≡ min most_slots (length s - 2)
+length_places_in s = simp (length-take, length-drop)
 
-pub length-shown : (s : Slots) → length (shown s) ≡ min mostSlots (length s - 2)
-length-shown s = length-view (pendingIn (markIn s)) (placesIn s) (copyIn s) ∙ length-placesIn s
+pub length_shown : (s : Slots) → length (shown s) ≡ min most_slots (length s - 2)
+length_shown s = length_view (pending_in (mark_in s)) (places_in s) (copy_in s) ∙ length_places_in s
 
-pub ruleset lengths = (length-shown, length-placesIn)
+pub ruleset lengths = (length_shown, length_places_in)
 
-view-None : (o : Option ℕ) (b : Slots) (c : Slot) → o ≡ None → view o b c ≡ b
+view_none : (o : Option ℕ) (b : Slots) (c : Slot) → o ≡ None → view o b c ≡ b
 unfolding view
-view-None o b c e = ap (λ x. view x b c) e
+view_none o b c e = ap (λ x. view x b c) e
 
-pub view-Some : (o : Option ℕ) (i : ℕ) (b : Slots) (c : Slot) → o ≡ Some i → view o b c ≡ set b i c
+pub view_some : (o : Option ℕ) (i : ℕ) (b : Slots) (c : Slot) → o ≡ Some i → view o b c ≡ set b i c
 unfolding view
-view-Some o i b c e = ap (λ x. view x b c) e
+view_some o i b c e = ap (λ x. view x b c) e
 
 pub view_other : (o : Option ℕ) (i : ℕ) (b : Slots) (c : Slot) → (o ≢ Some i) → get_or (view o b c) i [] ≡ get_or b i []
 unfolding view
 view_other None i b c h = refl
 view_other (Some j) i b c h = get_or-set_other b j i c [] (λ e. h (ap Some (sym e)))
 
-pub get_or-placesIn : (s : Slots) (i : ℕ) → i < mostSlots → get_or (placesIn s) i [] ≡ get_or s (i + 2) []
-get_or-placesIn s i h = get_or-take mostSlots (drop 2 s) i [] h ∙ get_or-drop 2 s i [] ∙ ap (λ k. get_or s k []) (add_comm 2 i)
+pub get_or_places_in : (s : Slots) (i : ℕ) → i < most_slots → get_or (places_in s) i [] ≡ get_or s (i + 2) []
+get_or_places_in s i h = get_or-take most_slots (drop 2 s) i [] h ∙ get_or-drop 2 s i [] ∙ ap (λ k. get_or s k []) (add_comm 2 i)
 
 -- ---- the slots below by their parts
 pub record Parts (s : Slots) (m : Slot) (b : Slots) (c : Slot) : Type 0 where
-  pub mark : markIn s ≡ m
-  pub places : placesIn s ≡ b
-  pub copy : copyIn s ≡ c
+  pub mark : mark_in s ≡ m
+  pub places : places_in s ≡ b
+  pub copy : copy_in s ≡ c
   pub long : 2 < length s
 
-pub parts_of : (s : Slots) → 2 < length s → Parts s (markIn s) (placesIn s) (copyIn s)
+pub parts_of : (s : Slots) → 2 < length s → Parts s (mark_in s) (places_in s) (copy_in s)
 parts_of s h = record { mark = refl; places = refl; copy = refl; long = h }
 
 -- a write to each
@@ -51,7 +51,7 @@ module _ {s : Slots} {m : Slot} {b : Slots} {c : Slot} (p : Parts s m b c) (x : 
   pub mark_written : Parts (set s 0 x) x b c
   mark_written = record {
     mark = get_or-set_same s 0 x [] (omega (arith, p.long));
-    places = ap (take mostSlots) (drop-set-lt 2 s 0 x (omega arith)) ∙ p.places;
+    places = ap (take most_slots) (drop-set-lt 2 s 0 x (omega arith)) ∙ p.places;
     copy = get_or-set_other s 0 1 x [] (λ e. omega arith) ∙ p.copy;
     long = omega (arith, p.long, length-set s 0 x);
   }
@@ -59,37 +59,37 @@ module _ {s : Slots} {m : Slot} {b : Slots} {c : Slot} (p : Parts s m b c) (x : 
   pub copy_written : Parts (set s 1 x) m b x
   copy_written = record {
     mark = get_or-set_other s 1 0 x [] (λ e. omega arith) ∙ p.mark;
-    places = ap (take mostSlots) (drop-set-lt 2 s 1 x (omega arith)) ∙ p.places;
+    places = ap (take most_slots) (drop-set-lt 2 s 1 x (omega arith)) ∙ p.places;
     copy = get_or-set_same s 1 x [] (omega (arith, p.long));
     long = omega (arith, p.long, length-set s 1 x);
   }
 
-  pub slot_written : (i : ℕ) → i < mostSlots → Parts (set s (i + 2) x) m (set b i x) c
+  pub slot_written : (i : ℕ) → i < most_slots → Parts (set s (i + 2) x) m (set b i x) c
   slot_written i h = record {
     mark = get_or-set_other s (i + 2) 0 x [] (λ e. omega arith) ∙ p.mark;
-    places = ap (λ k. take mostSlots (drop 2 (set s k x))) (add_comm i 2) ∙ ap (take mostSlots) (drop-set-add 2 s i x) ∙ take-set-lt mostSlots (drop 2 s) i x h ∙ ap (λ y. set y i x) p.places;
+    places = ap (λ k. take most_slots (drop 2 (set s k x))) (add_comm i 2) ∙ ap (take most_slots) (drop-set-add 2 s i x) ∙ take-set-lt most_slots (drop 2 s) i x h ∙ ap (λ y. set y i x) p.places;
     copy = get_or-set_other s (i + 2) 1 x [] (λ e. omega arith) ∙ p.copy;
     long = omega (arith, p.long, length-set s (i + 2) x);
   }
 
-shown-view : {s : Slots} {m : Slot} {b : Slots} {c : Slot} → Parts s m b c → shown s ≡ view (pendingIn m) b c
-shown-view p = let m = p.mark in let b = p.places in let c = p.copy in cc
+shown_view : {s : Slots} {m : Slot} {b : Slots} {c : Slot} → Parts s m b c → shown s ≡ view (pending_in m) b c
+shown_view p = let m = p.mark in let b = p.places in let c = p.copy in cc
 
-pub shown_low : {s : Slots} {m : Slot} {b : Slots} {c : Slot} → Parts s m b c → pendingIn m ≡ None → shown s ≡ b
-shown_low {m = m} {b = b} {c = c} p e = shown-view p ∙ view-None (pendingIn m) b c e
+pub shown_low : {s : Slots} {m : Slot} {b : Slots} {c : Slot} → Parts s m b c → pending_in m ≡ None → shown s ≡ b
+shown_low {m = m} {b = b} {c = c} p e = shown_view p ∙ view_none (pending_in m) b c e
 
-pub shown_raised : {s : Slots} {m : Slot} {b : Slots} {c : Slot} (i : ℕ) → Parts s m b c → pendingIn m ≡ Some i → shown s ≡ set b i c
-shown_raised {m = m} {b = b} {c = c} i p e = shown-view p ∙ view-Some (pendingIn m) i b c e
+pub shown_raised : {s : Slots} {m : Slot} {b : Slots} {c : Slot} (i : ℕ) → Parts s m b c → pending_in m ≡ Some i → shown s ≡ set b i c
+shown_raised {m = m} {b = b} {c = c} i p e = shown_view p ∙ view_some (pending_in m) i b c e
 
 -- ---- zeros to the mark, where each slot's own place holds what is shown: that stays, wherever they are cut
-module _ (s v : Slots) (some : 2 < length s) (places : placesIn s ≡ v) where
+module _ (s v : Slots) (some : 2 < length s) (places : places_in s ≡ v) where
   pub zeros_done : shown (set s 0 blank) ≡ v
   zeros_done = shown_low (mark_written (parts_of s some) blank) refl ∙ places
 
-  pub zeros_cut : shown s ≡ v → (k : ℕ) → shown (set s 0 (torn k (markIn s) blank)) ≡ v
+  pub zeros_cut : shown s ≡ v → (k : ℕ) → shown (set s 0 (torn k (mark_in s) blank)) ≡ v
   zeros_cut same k =
-      let p = mark_written (parts_of s some) (torn k (markIn s) blank) in
-      elim (torn_clear k (replicate 63 0) (markIn s)) [
-        | inl j ↦ shown-view p ∙ ap (λ y. view (pendingIn y) (placesIn s) (copyIn s)) j ∙ sym (shown-view (parts_of s some)) ∙ same
+      let p = mark_written (parts_of s some) (torn k (mark_in s) blank) in
+      elim (torn_clear k (replicate 63 0) (mark_in s)) [
+        | inl j ↦ shown_view p ∙ ap (λ y. view (pending_in y) (places_in s) (copy_in s)) j ∙ sym (shown_view (parts_of s some)) ∙ same
         | inr j ↦ shown_low p j ∙ places
       ]

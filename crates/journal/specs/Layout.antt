@@ -4,22 +4,22 @@ use Rattle.std.specs.Prelude.{ℕ, zero, suc, ◌+◌, ◌*◌, ◌/◌, ◌%◌
 use Rattle.device.specs.Effects.{Slot, Slots}
 
 -- a journal shows at most so many slots
-abbrev pub mostSlots : ℕ
-mostSlots = 1024
+abbrev pub most_slots : ℕ
+most_slots = 1024
 
-abbrev pub markIn : Slots → Slot
-markIn s = slice_index_or s 0 []
+abbrev pub mark_in : Slots → Slot
+mark_in s = slice_index_or s 0 []
 
-abbrev pub copyIn : Slots → Slot
-copyIn s = slice_index_or s 1 []
+abbrev pub copy_in : Slots → Slot
+copy_in s = slice_index_or s 1 []
 
 -- what the slots of the journal hold in their own places below
-abbrev pub placesIn : Slots → Slots
-placesIn s = take mostSlots (drop 2 s)
+abbrev pub places_in : Slots → Slots
+places_in s = take most_slots (drop 2 s)
 
 -- the slots below past the journal's last, which it never uses
-abbrev pub unusedIn : Slots → Slots
-unusedIn s = drop (2 + mostSlots) s
+abbrev pub unused_in : Slots → Slots
+unused_in s = drop (2 + most_slots) s
 
 -- a mark with a flag and a target: one byte, then two, then zeros
 abbrev pub mark_of : ℕ → ℕ → Slot
@@ -31,8 +31,8 @@ raised zero target = None
 raised (suc zero) target = Some target
 raised (suc (suc n)) target = None
 
-abbrev pub pendingIn : Slot → Option ℕ
-pendingIn mark = raised (slice_index mark 0) (slice_index mark 1 * 256 + slice_index mark 2)
+abbrev pub pending_in : Slot → Option ℕ
+pending_in mark = raised (slice_index mark 0) (slice_index mark 1 * 256 + slice_index mark 2)
 
 -- the copy in the place that it stands for
 unfoldable pub view : Option ℕ → Slots → Slot → Slots
@@ -41,4 +41,4 @@ view (Some i) places copy = slice_set places i copy
 
 -- the slots that the journal shows: slot i is the copy where that stands for it, else what its own place holds
 abbrev pub shown : Slots → Slots
-shown s = view (pendingIn (markIn s)) (placesIn s) (copyIn s)
+shown s = view (pending_in (mark_in s)) (places_in s) (copy_in s)

@@ -1,38 +1,38 @@
 -- The writes that a journal's calls make to the slots below it, and what those hold once some of the writes stand.
 use Rattle.std.specs.Prelude.{◌≡◌, ℕ, ◌+◌, ◌<◌, ◌≤◌, Bool, true, false, cond, ◌⊎◌, List, [], ◌∷◌, ◌++◌, length, Some, None, Ok, Err, Option, nat_lt, slice_index_or, slice_set}
 use Rattle.device.specs.declared.DeviceFault.TheVariants.{NoPower}
-use Rattle.device.specs.Effects.{Slot, Slots, Answer, Declined, slotSize, blank, torn}
-use Rattle.journal.specs.Layout.{markIn, copyIn, mark_of, pendingIn, shown}
+use Rattle.device.specs.Effects.{Slot, Slots, Answer, Declined, slot_size, blank, torn}
+use Rattle.journal.specs.Layout.{mark_in, copy_in, mark_of, pending_in, shown}
 
 -- to which slot below, and which bytes
 pub record Write : Type 0 where
   pub slot : ℕ
   pub bytes : Slot
 
-abbrev pub writeOf : ℕ → Slot → Write
-writeOf i b = record { slot = i; bytes = b }
+abbrev pub write_of : ℕ → Slot → Write
+write_of i b = record { slot = i; bytes = b }
 
 -- ---- which writes
 -- the copy goes to the slot i that it stands for, if the journal has it; then zeros to the mark
-unfoldable pub clearWritesOf : Option ℕ → Slots → List Write
-clearWritesOf None s = []
-clearWritesOf (Some i) s = cond (nat_lt i (length (shown s))) (writeOf (i + 2) (copyIn s) ∷ []) [] ++ (writeOf 0 blank ∷ [])
+unfoldable pub clear_writes_of : Option ℕ → Slots → List Write
+clear_writes_of None s = []
+clear_writes_of (Some i) s = cond (nat_lt i (length (shown s))) (write_of (i + 2) (copy_in s) ∷ []) [] ++ (write_of 0 blank ∷ [])
 
 -- those that clear a flag: none where the copy stands for no slot
-abbrev pub clearWrites : Slots → List Write
-clearWrites s = clearWritesOf (pendingIn (markIn s)) s
+abbrev pub clear_writes : Slots → List Write
+clear_writes s = clear_writes_of (pending_in (mark_in s)) s
 
 -- those that put b in slot i
-abbrev pub placeWrites : ℕ → Slot → List Write
-placeWrites i b = writeOf 1 b ∷ writeOf 0 (mark_of 0 i) ∷ writeOf 0 (mark_of 1 i) ∷ writeOf (i + 2) b ∷ writeOf 0 blank ∷ []
+abbrev pub place_writes : ℕ → Slot → List Write
+place_writes i b = write_of 1 b ∷ write_of 0 (mark_of 0 i) ∷ write_of 0 (mark_of 1 i) ∷ write_of (i + 2) b ∷ write_of 0 blank ∷ []
 
 -- those of a write of b to slot i
-abbrev pub slotWrites : Slots → ℕ → Slot → List Write
-slotWrites s i b = clearWrites s ++ placeWrites i b
+abbrev pub slot_writes : Slots → ℕ → Slot → List Write
+slot_writes s i b = clear_writes s ++ place_writes i b
 
 -- those of a restart: a journal of no slots has nothing to clear
-abbrev pub restartWrites : Slots → List Write
-restartWrites s = cond (nat_lt 0 (length (shown s))) (clearWrites s) []
+abbrev pub restart_writes : Slots → List Write
+restart_writes s = cond (nat_lt 0 (length (shown s))) (clear_writes s) []
 
 -- ---- what they do
 -- the slots once all of the writes stand
@@ -47,7 +47,7 @@ pub record CutShort (s : Slots) (ws : List Write) (t : Slots) : Type 0 where
   pub back : List Write
   pub are : ws ≡ front ++ (cut ∷ back)
   pub standing : ℕ
-  pub few : standing ≤ slotSize
+  pub few : standing ≤ slot_size
   pub slots : t ≡ slice_set (stood s front) cut.slot (torn standing (slice_index_or (stood s front) cut.slot []) cut.bytes)
 
 -- the writes made one after another, with the power on: all are done, or it fails at one
@@ -63,12 +63,12 @@ Within n (w ∷ ws) = (w.slot < n) × Within n ws
 -- ---- the calls
 -- a write of b to slot i, seen below: its writes are made; or it is declined, and nothing changes
 abbrev pub WritingBelow : Slots → Bool → ℕ → Slot → Answer → Slots → Bool → Type 0
-WritingBelow s on i b (Ok u) t on' = (i < length (shown s)) × (on ≡ true) × Ran s (slotWrites s i b) (Ok u) t on'
+WritingBelow s on i b (Ok u) t on' = (i < length (shown s)) × (on ≡ true) × Ran s (slot_writes s i b) (Ok u) t on'
 WritingBelow s on i b (Err e) t on' =
     (Declined (shown s) on i e × (t ≡ s) × (on' ≡ on))
-    ⊎ ((i < length (shown s)) × (on ≡ true) × Ran s (slotWrites s i b) (Err e) t on')
+    ⊎ ((i < length (shown s)) × (on ≡ true) × Ran s (slot_writes s i b) (Err e) t on')
 
 -- a restart, seen below: its writes are made; or the power fails before the first, and nothing changes
 abbrev pub RestartingBelow : Slots → Answer → Slots → Bool → Type 0
-RestartingBelow s (Ok u) t on' = Ran s (restartWrites s) (Ok u) t on'
-RestartingBelow s (Err e) t on' = ((e ≡ NoPower) × (t ≡ s) × (on' ≡ false)) ⊎ Ran s (restartWrites s) (Err e) t on'
+RestartingBelow s (Ok u) t on' = Ran s (restart_writes s) (Ok u) t on'
+RestartingBelow s (Err e) t on' = ((e ≡ NoPower) × (t ≡ s) × (on' ≡ false)) ⊎ Ran s (restart_writes s) (Err e) t on'

@@ -7,8 +7,8 @@
 
 ghost use Rattle.std.specs.Prelude.{◌≡◌, ◌+◌, ◌<◌, ◌≤◌, true, false, length, map, Some, None, MatchResult};
 ghost use Rattle.device.specs.Effects.{Writing, Restarting, blank};
-ghost use Rattle.journal.specs.Layout.{shown, copyIn, mostSlots, mark_of, markIn, pendingIn, unusedIn};
-ghost use Rattle.journal.specs.Writes.{writeOf, clearWritesOf, clearWrites, placeWrites, Within, Ran, WritingBelow, RestartingBelow};
+ghost use Rattle.journal.specs.Layout.{shown, copy_in, most_slots, mark_of, mark_in, pending_in, unused_in};
+ghost use Rattle.journal.specs.Writes.{write_of, clear_writes_of, clear_writes, place_writes, Within, Ran, WritingBelow, RestartingBelow};
 
 use device::{DeviceFault, ReadSlots, TearSlots, WriteSlots, blank_slot};
 
@@ -58,7 +58,7 @@ impl<D> Journal<D> {
 
 // The slot that a mark's copy stands for.
 fn target_of(mark: &[u8; 64]) -> Option<usize>
-    ensures { result ≡ pendingIn mark.now }
+    ensures { result ≡ pending_in mark.now }
 {
     if mark[0] == RAISED {
         Some(mark[1] as usize * 256 + mark[2] as usize)
@@ -70,7 +70,7 @@ fn target_of(mark: &[u8; 64]) -> Option<usize>
 // The slot that the copy below stands for.
 fn pending<D: ReadSlots>(d: &D) -> Result<Option<usize>, DeviceFault>
     requires { 2 < length (D.ReadSlots.slots d.now) }
-    ensures { MatchResult result (λ o. (D.ReadSlots.powered d.now ≡ true) × (o ≡ pendingIn (markIn (D.ReadSlots.slots d.now)))) (λ e. (e ≡ DeviceFault.NoPower) × (D.ReadSlots.powered d.now ≡ false)) }
+    ensures { MatchResult result (λ o. (D.ReadSlots.powered d.now ≡ true) × (o ≡ pending_in (mark_in (D.ReadSlots.slots d.now)))) (λ e. (e ≡ DeviceFault.NoPower) × (D.ReadSlots.powered d.now ≡ false)) }
 {
     let mut mark = [0; 64];
     d.read(MARK, &mut mark)?;
@@ -79,7 +79,7 @@ fn pending<D: ReadSlots>(d: &D) -> Result<Option<usize>, DeviceFault>
 
 // A mark with a flag and a target.
 fn mark_with(flag: u8, target: usize) -> [u8; 64]
-    requires { target < mostSlots }
+    requires { target < most_slots }
     ensures { result ≡ mark_of flag target }
 {
     let mut mark = [0; 64];
@@ -93,7 +93,7 @@ fn mark_with(flag: u8, target: usize) -> [u8; 64]
 #[tactic(auto, using(crate::proofs::Views::lengths))]
 fn shown_count<D: ReadSlots>(d: &D) -> usize
     ensures count { result ≡ length (shown (D.ReadSlots.slots d.now)) }
-    ensures bound { (result ≤ mostSlots) × ((0 < result → result + 2 ≤ length (D.ReadSlots.slots d.now))) }
+    ensures bound { (result ≤ most_slots) × ((0 < result → result + 2 ≤ length (D.ReadSlots.slots d.now))) }
 {
     d.count().saturating_sub(FIRST).min(MOST_SLOTS)
 }
@@ -101,8 +101,8 @@ fn shown_count<D: ReadSlots>(d: &D) -> usize
 // Makes writes below in their order, until the power fails at one.
 fn run<D: TearSlots>(d: &mut D, writes: &[RawWrite]) -> Result<(), DeviceFault>
     requires on { D.ReadSlots.powered d.old ≡ true }
-    requires within { Within (length (D.ReadSlots.slots d.old)) (map (λ w. writeOf w.0 w.1.now) writes.now) }
-    ensures { Ran (D.ReadSlots.slots d.old) (map (λ w. writeOf w.0 w.1.now) writes.now) result (D.ReadSlots.slots d.new) (D.ReadSlots.powered d.new) }
+    requires within { Within (length (D.ReadSlots.slots d.old)) (map (λ w. write_of w.0 w.1.now) writes.now) }
+    ensures { Ran (D.ReadSlots.slots d.old) (map (λ w. write_of w.0 w.1.now) writes.now) result (D.ReadSlots.slots d.new) (D.ReadSlots.powered d.new) }
 {
     for (slot, bytes) in writes {
         d.write(*slot, bytes)?;
@@ -114,9 +114,9 @@ fn run<D: TearSlots>(d: &mut D, writes: &[RawWrite]) -> Result<(), DeviceFault>
 #[tactic(auto, using(crate::proofs::Clearings::clearing))]
 fn deliver<D: TearSlots>(d: &mut D, target: usize, copy: &[u8; 64]) -> Result<(), DeviceFault>
     requires on { D.ReadSlots.powered d.old ≡ true }
-    requires copy { copy.now ≡ copyIn (D.ReadSlots.slots d.old) }
+    requires copy { copy.now ≡ copy_in (D.ReadSlots.slots d.old) }
     requires some { 2 < length (D.ReadSlots.slots d.old) }
-    ensures { Ran (D.ReadSlots.slots d.old) (clearWritesOf (Some target) (D.ReadSlots.slots d.old)) result (D.ReadSlots.slots d.new) (D.ReadSlots.powered d.new) }
+    ensures { Ran (D.ReadSlots.slots d.old) (clear_writes_of (Some target) (D.ReadSlots.slots d.old)) result (D.ReadSlots.slots d.new) (D.ReadSlots.powered d.new) }
 {
     let zeros = blank_slot();
     if target < shown_count(d) {
@@ -134,9 +134,9 @@ fn clear<D: TearSlots>(
     pending: Option<usize>,
 ) -> Result<(), DeviceFault>
     requires on { D.ReadSlots.powered d.old ≡ true }
-    requires pending { pending ≡ pendingIn (markIn (D.ReadSlots.slots d.old)) }
+    requires pending { pending ≡ pending_in (mark_in (D.ReadSlots.slots d.old)) }
     requires some { 2 < length (D.ReadSlots.slots d.old) }
-    ensures step { Ran (D.ReadSlots.slots d.old) (clearWrites (D.ReadSlots.slots d.old)) result (D.ReadSlots.slots d.new) (D.ReadSlots.powered d.new) }
+    ensures step { Ran (D.ReadSlots.slots d.old) (clear_writes (D.ReadSlots.slots d.old)) result (D.ReadSlots.slots d.new) (D.ReadSlots.powered d.new) }
     ensures wiped { pad.old ≡ blank → pad.new ≡ blank }
 {
     match pending {
@@ -153,8 +153,8 @@ fn clear<D: TearSlots>(
 // Puts bytes in a slot by five writes, where no flag is raised.
 fn place<D: TearSlots>(d: &mut D, index: usize, bytes: &[u8; 64]) -> Result<(), DeviceFault>
     requires on { D.ReadSlots.powered d.old ≡ true }
-    requires within { (index + 2 < length (D.ReadSlots.slots d.old)) × (index < mostSlots) }
-    ensures { Ran (D.ReadSlots.slots d.old) (placeWrites index bytes.now) result (D.ReadSlots.slots d.new) (D.ReadSlots.powered d.new) }
+    requires within { (index + 2 < length (D.ReadSlots.slots d.old)) × (index < most_slots) }
+    ensures { Ran (D.ReadSlots.slots d.old) (place_writes index bytes.now) result (D.ReadSlots.slots d.new) (D.ReadSlots.powered d.new) }
 {
     let targeted = mark_with(LOWERED, index);
     let raised = mark_with(RAISED, index);
@@ -229,7 +229,7 @@ impl<D: TearSlots> WriteSlots for Journal<D> {
     fn write(&mut self, index: usize, bytes: &[u8; 64]) -> Result<(), DeviceFault>
         ensures meaning { Writing (shown (D.ReadSlots.slots self.old.below)) (D.ReadSlots.powered self.old.below) index bytes.now result (shown (D.ReadSlots.slots self.new.below)) (D.ReadSlots.powered self.new.below) }
         ensures below { WritingBelow (D.ReadSlots.slots self.old.below) (D.ReadSlots.powered self.old.below) index bytes.now result (D.ReadSlots.slots self.new.below) (D.ReadSlots.powered self.new.below) }
-        ensures unused { unusedIn (D.ReadSlots.slots self.new.below) ≡ unusedIn (D.ReadSlots.slots self.old.below) }
+        ensures unused { unused_in (D.ReadSlots.slots self.new.below) ≡ unused_in (D.ReadSlots.slots self.old.below) }
         ensures wiped { self.old.pad ≡ blank → self.new.pad ≡ blank }
     {
         let Journal { below, pad } = self;
@@ -240,7 +240,7 @@ impl<D: TearSlots> WriteSlots for Journal<D> {
     fn restart(&mut self) -> Result<(), DeviceFault>
         ensures meaning { Restarting (shown (D.ReadSlots.slots self.old.below)) result (shown (D.ReadSlots.slots self.new.below)) (D.ReadSlots.powered self.new.below) }
         ensures below { RestartingBelow (D.ReadSlots.slots self.old.below) result (D.ReadSlots.slots self.new.below) (D.ReadSlots.powered self.new.below) }
-        ensures unused { unusedIn (D.ReadSlots.slots self.new.below) ≡ unusedIn (D.ReadSlots.slots self.old.below) }
+        ensures unused { unused_in (D.ReadSlots.slots self.new.below) ≡ unused_in (D.ReadSlots.slots self.old.below) }
         ensures wiped { self.old.pad ≡ blank → self.new.pad ≡ blank }
     {
         let Journal { below, pad } = self;

@@ -7,7 +7,7 @@ use Rattle.chain.specs.Reading.{Link, slots_of}
 use Rattle.steps.specs.OneStep.{Write}
 use Rattle.steps.specs.Writes.{stood}
 use Rattle.rules.specs.Kits.{Kit}
-use Rattle.rules.specs.Calls.{countFits}
+use Rattle.rules.specs.Calls.{count_fits}
 use Rattle.law.proofs.Invariant.{Linked, Stands}
 
 -- ---- lists of writes
@@ -21,49 +21,49 @@ in_take x (suc m) (y ∷ ys) (inr i) = inr (in_take x m ys i)
 abbrev pub Unnamed : ℕ → List Write → Type 0
 Unnamed i ws = (w : Write) → In w ws → i ≡ w.slot → ⊥
 
-pub stood-other : (s : Slots) (ws : List Write) (i : ℕ) → Unnamed i ws → get_or (stood s ws) i [] ≡ get_or s i []
-stood-other s [] i f = refl
-stood-other s (w ∷ ws) i f = stood-other (set s w.slot w.bytes) ws i (λ v m. f v (inr m)) ∙ get_or-set_other s w.slot i w.bytes [] (f w (inl refl))
+pub stood_other : (s : Slots) (ws : List Write) (i : ℕ) → Unnamed i ws → get_or (stood s ws) i [] ≡ get_or s i []
+stood_other s [] i f = refl
+stood_other s (w ∷ ws) i f = stood_other (set s w.slot w.bytes) ws i (λ v m. f v (inr m)) ∙ get_or-set_other s w.slot i w.bytes [] (f w (inl refl))
 
 -- ---- the count of the slots
-pub count-least : (d : ℕ) (s : Slots) → countFits d s ≡ true → d + 2 ≤ length s
-count-least d s e = leb-true (d + 2) (length s) (and_parts (leb (d + 2) (length s)) (leb (length s) 1024) e).0
+pub count_least : (d : ℕ) (s : Slots) → count_fits d s ≡ true → d + 2 ≤ length s
+count_least d s e = leb-true (d + 2) (length s) (and_parts (leb (d + 2) (length s)) (leb (length s) 1024) e).0
 
-pub count_most : (d : ℕ) (s : Slots) → countFits d s ≡ true → length s ≤ 1024
+pub count_most : (d : ℕ) (s : Slots) → count_fits d s ≡ true → length s ≤ 1024
 count_most d s e = leb-true (length s) 1024 (and_parts (leb (d + 2) (length s)) (leb (length s) 1024) e).1
 
-pub count_kept : (d : ℕ) (s t : Slots) → length t ≡ length s → countFits d s ≡ true → countFits d t ≡ true
+pub count_kept : (d : ℕ) (s t : Slots) → length t ≡ length s → count_fits d s ≡ true → count_fits d t ≡ true
 count_kept d s t e f = subst (λ (n : ℕ). (leb (d + 2) n && leb n 1024) ≡ true) (sym e) f
 
 -- ---- the chain
 -- as many slots, of which the chain's hold what they held
-pub linked-frame : (s t : Slots) (xs : List Link) (i : ℕ) → length t ≡ length s → ((j : ℕ) → In j (slots_of xs) → get_or t j [] ≡ get_or s j []) → Linked s xs i → Linked t xs i
-linked-frame s t [] i e f l = tt
-linked-frame s t (x ∷ xs) i e f l = (l.0, subst (λ (n : ℕ). x.slot < n) (sym e) l.1, f x.slot (inl refl) ∙ l.2, linked-frame s t xs i e (λ j m. f j (inr m)) l.3)
+pub linked_frame : (s t : Slots) (xs : List Link) (i : ℕ) → length t ≡ length s → ((j : ℕ) → In j (slots_of xs) → get_or t j [] ≡ get_or s j []) → Linked s xs i → Linked t xs i
+linked_frame s t [] i e f l = tt
+linked_frame s t (x ∷ xs) i e f l = (l.0, subst (λ (n : ℕ). x.slot < n) (sym e) l.1, f x.slot (inl refl) ∙ l.2, linked_frame s t xs i e (λ j m. f j (inr m)) l.3)
 
 -- a write to a slot that is not of the chain
-pub linked-set : (s : Slots) (xs : List Link) (i p : ℕ) (b : Slot) → (In p (slots_of xs) → ⊥) → Linked s xs i → Linked (set s p b) xs i
-linked-set s xs i p b off l =
-    linked-frame s (set s p b) xs i (length-set s p b) (λ j m. get_or-set_other s p j b [] (λ q. off (subst (λ (z : ℕ). In z (slots_of xs)) q m))) l
+pub linked_set : (s : Slots) (xs : List Link) (i p : ℕ) (b : Slot) → (In p (slots_of xs) → ⊥) → Linked s xs i → Linked (set s p b) xs i
+linked_set s xs i p b off l =
+    linked_frame s (set s p b) xs i (length-set s p b) (λ j m. get_or-set_other s p j b [] (λ q. off (subst (λ (z : ℕ). In z (slots_of xs)) q m))) l
 
 -- ---- the file
 -- each write goes to a slot other than the head's and the chain's
 abbrev pub Aside : List Link → List Write → Type 0
 Aside xs ws = (w : Write) → In w ws → (0 < w.slot) × (In w.slot (slots_of xs) → ⊥)
 
-pub aside-take : (xs : List Link) (m : ℕ) (ws : List Write) → Aside xs ws → Aside xs (take m ws)
-aside-take xs m ws f w i = f w (in_take w m ws i)
+pub aside_take : (xs : List Link) (m : ℕ) (ws : List Write) → Aside xs ws → Aside xs (take m ws)
+aside_take xs m ws f w i = f w (in_take w m ws i)
 
 -- such writes keep the file
-pub stands-aside : (k : Kit) (d : ℕ) (name : List ℕ) (issued : ℕ) (xs : List Link) (s : Slots) (ws : List Write) → Aside xs ws →
+pub stands_aside : (k : Kit) (d : ℕ) (name : List ℕ) (issued : ℕ) (xs : List Link) (s : Slots) (ws : List Write) → Aside xs ws →
     Stands k d name issued s xs → Stands k d name issued (stood s ws) xs
-stands-aside k d name issued xs s [] f v = v
-stands-aside k d name issued xs s (w ∷ ws) f v =
+stands_aside k d name issued xs s [] f v = v
+stands_aside k d name issued xs s (w ∷ ws) f v =
     let a = f w (inl refl) in
-    stands-aside k d name issued xs (set s w.slot w.bytes) ws (λ u i. f u (inr i))
+    stands_aside k d name issued xs (set s w.slot w.bytes) ws (λ u i. f u (inr i))
     (record {
       fits = count_kept d s (set s w.slot w.bytes) (length-set s w.slot w.bytes) v.fits;
       head = get_or-set_other s w.slot 0 w.bytes [] (λ q. omega (arith, q, a.0)) ∙ v.head;
-      links = linked-set s xs 0 w.slot w.bytes a.1 v.links;
+      links = linked_set s xs 0 w.slot w.bytes a.1 v.links;
       apart = v.apart;
     })

@@ -2,15 +2,15 @@
 use Rattle.std.proofs.Common.{◌≡◌, ℕ, ◌^◌, ◌<◌, ◌≤◌, Bool, true, List, [], ◌∷◌, map, length, get_or}
 use Rattle.device.specs.Effects.{Slots}
 use Rattle.layout.specs.declared.Head.{Head}
-use Rattle.layout.specs.Records.{encodeHead}
-use Rattle.session.specs.Records.{isRecord}
+use Rattle.layout.specs.Records.{encode_head}
+use Rattle.session.specs.Records.{is_record}
 use Rattle.tree.specs.Cover.{In, Distinct}
-use Rattle.tree.specs.Values.{key_of, valuedCover}
-use Rattle.chain.specs.Reading.{Link, valuedOf, slots_of}
-use Rattle.rules.specs.Kits.{Kit, valueLength, nameLength}
-use Rattle.rules.specs.Tickets.{ticketOf}
-use Rattle.rules.specs.Files.{entry, recordOf}
-use Rattle.rules.specs.Calls.{countFits}
+use Rattle.tree.specs.Values.{key_of, valued_cover}
+use Rattle.chain.specs.Reading.{Link, valued_of, slots_of}
+use Rattle.rules.specs.Kits.{Kit, value_length, name_length}
+use Rattle.rules.specs.Tickets.{ticket_of}
+use Rattle.rules.specs.Files.{entry, record_of}
+use Rattle.rules.specs.Calls.{count_fits}
 use Rattle.rules.specs.Books.{Given, Book}
 use Rattle.rules.specs.Pasts.{Mode, running}
 use Rattle.law.specs.Law.{RestBlank}
@@ -18,19 +18,19 @@ use Rattle.law.specs.Law.{RestBlank}
 -- each link stands in its slot as a record that leads to the next, the last one on to i
 abbrev pub Linked : Slots → List Link → ℕ → Type 0
 Linked s [] i = Unit {0}
-Linked s (x ∷ xs) i = (0 < x.slot) × (x.slot < length s) × (get_or s x.slot [] ≡ recordOf x (entry xs i)) × Linked s xs i
+Linked s (x ∷ xs) i = (0 < x.slot) × (x.slot < length s) × (get_or s x.slot [] ≡ record_of x (entry xs i)) × Linked s xs i
 
-abbrev pub headFor : Kit → List ℕ → ℕ → ℕ → Head
-headFor k name issued i = record { first = i; issued = issued; name = name; generator = k.generator; sealer = k.sealer }
+abbrev pub head_for : Kit → List ℕ → ℕ → ℕ → Head
+head_for k name issued i = record { first = i; issued = issued; name = name; generator = k.generator; sealer = k.sealer }
 
 -- the head and the chain that are then read
-abbrev pub fileFor : Kit → List ℕ → ℕ → List Link → Head × List Link
-fileFor k name issued xs = (headFor k name issued (entry xs 0), xs)
+abbrev pub file_for : Kit → List ℕ → ℕ → List Link → Head × List Link
+file_for k name issued xs = (head_for k name issued (entry xs 0), xs)
 
 -- the file with so many numbers issued and these links stands in the slots
 pub record Stands (k : Kit) (d : ℕ) (name : List ℕ) (issued : ℕ) (s : Slots) (xs : List Link) : Type 0 where
-  pub fits : countFits d s ≡ true
-  pub head : get_or s 0 [] ≡ encodeHead d (headFor k name issued (entry xs 0))
+  pub fits : count_fits d s ≡ true
+  pub head : get_or s 0 [] ≡ encode_head d (head_for k name issued (entry xs 0))
   pub links : Linked s xs 0
   pub apart : Distinct (slots_of xs)
 
@@ -38,15 +38,15 @@ pub record Stands (k : Kit) (d : ℕ) (name : List ℕ) (issued : ℕ) (s : Slot
 pub record Inv (k : Kit) (d : ℕ) (root name : List ℕ) (m : Mode) (s : Slots) (on : Bool) (b : Book) : Type 0 where
   pub links : List Link
   pub stands : Stands k d name b.issued s links
-  pub covers : map valuedOf links ≡ valuedCover k.expansion d root b.spent
+  pub covers : map valued_of links ≡ valued_cover k.expansion d root b.spent
   pub counted : b.issued ≤ 2 ^ d
   pub below : (n : ℕ) → In n b.spent → n < b.issued
-  pub rooted : length root ≡ valueLength
-  pub named : length name ≡ nameLength
+  pub rooted : length root ≡ value_length
+  pub named : length name ≡ name_length
   pub power : m ≡ running → on ≡ true
   pub rest : m ≡ running → RestBlank s links
   pub once : Distinct b.opened
   pub opened : (n : ℕ) → In n b.opened → In n b.spent
   pub issued : (g : Given) → In g b.given → g.number < b.issued
-  pub records : (g : Given) → In g b.given → isRecord g.state ≡ true
-  pub tickets : (g : Given) → In g b.given → g.ticket ≡ ticketOf k name g.number (key_of k.expansion d root g.number) g.state
+  pub records : (g : Given) → In g b.given → is_record g.state ≡ true
+  pub tickets : (g : Given) → In g b.given → g.ticket ≡ ticket_of k name g.number (key_of k.expansion d root g.number) g.state

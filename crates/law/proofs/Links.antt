@@ -4,12 +4,12 @@ use Rattle.std.proofs.lemmas.List.{length-map}
 use Rattle.tree.specs.declared.Node.{Node}
 use Rattle.tree.specs.Nodes.{IsNode, Covers}
 use Rattle.tree.specs.Cover.{In, cover}
-use Rattle.tree.specs.Values.{Valued, valued, value_of, key_of, keyFrom, valuedCover}
-use Rattle.tree.proofs.Keys.{of-valued}
+use Rattle.tree.specs.Values.{Valued, valued, value_of, key_of, key_from, valued_cover}
+use Rattle.tree.proofs.Keys.{of_valued}
 use Rattle.tree.proofs.Places.{characterised}
-use Rattle.tree.proofs.Descent.{key-from}
-use Rattle.chain.specs.Reading.{Link, valuedOf}
-use Rattle.chain.specs.Sound.{nodesOf}
+use Rattle.tree.proofs.Descent.{key_from_is}
+use Rattle.chain.specs.Reading.{Link, valued_of}
+use Rattle.chain.specs.Sound.{nodes_of}
 use Rattle.rules.specs.Kits.{Kit}
 
 pub in_map : {A B : Type 0} (f : A → B) (x : A) (xs : List A) → In x xs → In (f x) (map f xs)
@@ -18,55 +18,55 @@ in_map f x (y ∷ ys) (inl e) = inl (ap f e)
 in_map f x (y ∷ ys) (inr i) = inr (in_map f x ys i)
 
 -- each node of a chain is a link's
-pub link-of : (xs : List Link) (y : Node) → In y (nodesOf xs) → (x : Link) × In x xs × (x.node ≡ y)
-link-of (x ∷ xs) y (inl q) = (x, inl refl, sym q)
-link-of (x ∷ xs) y (inr i) = let t = link-of xs y i in (t.0, inr t.1, t.2)
-link-of [] y i = absurd i
+pub link_of : (xs : List Link) (y : Node) → In y (nodes_of xs) → (x : Link) × In x xs × (x.node ≡ y)
+link_of (x ∷ xs) y (inl q) = (x, inl refl, sym q)
+link_of (x ∷ xs) y (inr i) = let t = link_of xs y i in (t.0, inr t.1, t.2)
+link_of [] y i = absurd i
 
-same-nodes : (f : Node → List ℕ) (xs : List Link) (ns : List Node) → map valuedOf xs ≡ valued f ns → nodesOf xs ≡ ns
-same-nodes f [] [] q = refl
-same-nodes f [] (n ∷ ns) q = let z : ◌≡◌ {A = ℕ} 0 1 = cc in absurd (omega arith)
-same-nodes f (x ∷ xs) [] q = let z : ◌≡◌ {A = ℕ} 0 1 = cc in absurd (omega arith)
-same-nodes f (x ∷ xs) (n ∷ ns) q =
+same_nodes : (f : Node → List ℕ) (xs : List Link) (ns : List Node) → map valued_of xs ≡ valued f ns → nodes_of xs ≡ ns
+same_nodes f [] [] q = refl
+same_nodes f [] (n ∷ ns) q = let z : ◌≡◌ {A = ℕ} 0 1 = cc in absurd (omega arith)
+same_nodes f (x ∷ xs) [] q = let z : ◌≡◌ {A = ℕ} 0 1 = cc in absurd (omega arith)
+same_nodes f (x ∷ xs) (n ∷ ns) q =
     let a : ◌≡◌ {A = Valued} (x.node, x.value) (n, f n) = cc in
-    let t : map valuedOf xs ≡ valued f ns = cc in
-    ap₂ (λ (y : Node) (l : List Node). y ∷ l) (ap (λ (z : Valued). z.0) a) (same-nodes f xs ns t)
+    let t : map valued_of xs ≡ valued f ns = cc in
+    ap₂ (λ (y : Node) (l : List Node). y ∷ l) (ap (λ (z : Valued). z.0) a) (same_nodes f xs ns t)
 
-value-at : (f : Node → List ℕ) (ns : List Node) (x : Node) (u : List ℕ) → In (x, u) (valued f ns) → u ≡ f x
-value-at f (y ∷ ys) x u (inl q) = ap (λ (z : Valued). z.1) q ∙ ap f (sym (ap (λ (z : Valued). z.0) q))
-value-at f (y ∷ ys) x u (inr i) = value-at f ys x u i
-value-at f [] x u i = absurd i
+value_at_is : (f : Node → List ℕ) (ns : List Node) (x : Node) (u : List ℕ) → In (x, u) (valued f ns) → u ≡ f x
+value_at_is f (y ∷ ys) x u (inl q) = ap (λ (z : Valued). z.1) q ∙ ap f (sym (ap (λ (z : Valued). z.0) q))
+value_at_is f (y ∷ ys) x u (inr i) = value_at_is f ys x u i
+value_at_is f [] x u i = absurd i
 
 -- a link's node is of the cover, and has the tree's value
 pub record Linking (k : Kit) (d : ℕ) (root : List ℕ) (spent : List ℕ) (x : Link) : Type 0 where
   pub member : In x.node (cover d spent)
-  pub isNode : IsNode d x.node
+  pub is_node : IsNode d x.node
   pub value : x.value ≡ value_of k.expansion d root x.node
 
-module _ (k : Kit) (d : ℕ) (root : List ℕ) (spent : List ℕ) (xs : List Link) (covers : map valuedOf xs ≡ valuedCover k.expansion d root spent) where
-  pub nodes-are : nodesOf xs ≡ cover d spent
-  nodes-are = same-nodes (value_of k.expansion d root) xs (cover d spent) covers
+module _ (k : Kit) (d : ℕ) (root : List ℕ) (spent : List ℕ) (xs : List Link) (covers : map valued_of xs ≡ valued_cover k.expansion d root spent) where
+  pub nodes_are : nodes_of xs ≡ cover d spent
+  nodes_are = same_nodes (value_of k.expansion d root) xs (cover d spent) covers
 
-  pub link-count : length xs ≡ length (cover d spent)
-  link-count = sym (length-map xs (λ (x : Link). x.node)) ∙ ap length nodes-are
+  pub link_count : length xs ≡ length (cover d spent)
+  link_count = sym (length-map xs (λ (x : Link). x.node)) ∙ ap length nodes_are
 
   -- each node of the cover is a link's
-  pub link-over : (x : Node) → In x (cover d spent) → (y : Link) × In y xs × (y.node ≡ x)
-  link-over x i = link-of xs x (subst (λ (l : List Node). In x l) (sym nodes-are) i)
+  pub link_over : (x : Node) → In x (cover d spent) → (y : Link) × In y xs × (y.node ≡ x)
+  link_over x i = link_of xs x (subst (λ (l : List Node). In x l) (sym nodes_are) i)
 
-  pub link-is : (x : Link) → In x xs → Linking k d root spent x
-  link-is x i =
+  pub link_is : (x : Link) → In x xs → Linking k d root spent x
+  link_is x i =
       let f = value_of k.expansion d root in
-      let j : In (x.node, x.value) (valued f (cover d spent)) = subst (λ (ys : List Valued). In (x.node, x.value) ys) covers (in_map valuedOf x xs i) in
-      let n = of-valued f (cover d spent) x.node x.value j in
+      let j : In (x.node, x.value) (valued f (cover d spent)) = subst (λ (ys : List Valued). In (x.node, x.value) ys) covers (in_map valued_of x xs i) in
+      let n = of_valued f (cover d spent) x.node x.value j in
       record {
         member = n;
-        isNode = ((characterised d spent x.node).0 n).0;
-        value = value-at f (cover d spent) x.node x.value j;
+        is_node = ((characterised d spent x.node).0 n).0;
+        value = value_at_is f (cover d spent) x.node x.value j;
       }
 
   -- going down from it gives the tree's key
-  pub key-is : (x : Link) (n : ℕ) → In x xs → Covers d x.node n → keyFrom k.expansion d x.node x.value n ≡ key_of k.expansion d root n
-  key-is x n i c =
-      let l = link-is x i in
-      ap (λ (u : List ℕ). keyFrom k.expansion d x.node u n) l.value ∙ (key-from k.expansion d root x.node n l.isNode c).same
+  pub key_is : (x : Link) (n : ℕ) → In x xs → Covers d x.node n → key_from k.expansion d x.node x.value n ≡ key_of k.expansion d root n
+  key_is x n i c =
+      let l = link_is x i in
+      ap (λ (u : List ℕ). key_from k.expansion d x.node u n) l.value ∙ (key_from_is k.expansion d root x.node n l.is_node c).same

@@ -3,45 +3,45 @@ use Rattle.std.proofs.Common.{◌≡◌, ℕ, ◌+◌, ◌^◌, ◌<◌, ◌≤�
 use Rattle.std.proofs.lemmas.List.{length-append, take_at, drop_at, take-append-le, drop-append-le}
 use Rattle.std.proofs.lemmas.Bool.{and_from, eq-eqb}
 use Rattle.octets.specs.Fields.{bytes_of, number_of}
-use Rattle.octets.proofs.Fielded.{length-bytes, number-bytes}
-use Rattle.session.specs.Limits.{mostLength}
+use Rattle.octets.proofs.Fielded.{length_bytes, number_bytes}
+use Rattle.session.specs.Limits.{most_length}
 use Rattle.tree.specs.Values.{follow}
-use Rattle.rules.specs.Kits.{Kit, Lawful, valueLength, nameLength, headingLength}
-use Rattle.rules.specs.Tickets.{headingOf, ticketOf, nameIn, number_in, headingIn, sealedIn}
-use Rattle.rules.specs.Calls.{sameBytes}
+use Rattle.rules.specs.Kits.{Kit, Lawful, value_length, name_length, heading_length}
+use Rattle.rules.specs.Tickets.{heading_of, ticket_of, name_in, number_in, heading_in, sealed_in}
+use Rattle.rules.specs.Calls.{same_bytes}
 
 -- a value at the end of any way is as long as one at its start
-pub follow-long : (k : Kit) → Lawful k → (v : List ℕ) (bs : List Bool) → length v ≡ valueLength → length (follow k.expansion v bs) ≡ valueLength
-follow-long k w v [] q = q
-follow-long k w v (false ∷ bs) q = follow-long k w (k.expansion.left v) bs (w.onLeft v q)
-follow-long k w v (true ∷ bs) q = follow-long k w (k.expansion.right v) bs (w.onRight v q)
+pub follow_long : (k : Kit) → Lawful k → (v : List ℕ) (bs : List Bool) → length v ≡ value_length → length (follow k.expansion v bs) ≡ value_length
+follow_long k w v [] q = q
+follow_long k w v (false ∷ bs) q = follow_long k w (k.expansion.left v) bs (w.on_left v q)
+follow_long k w v (true ∷ bs) q = follow_long k w (k.expansion.right v) bs (w.on_right v q)
 
-pub same_self : (xs : List ℕ) → sameBytes xs xs ≡ true
+pub same_self : (xs : List ℕ) → same_bytes xs xs ≡ true
 same_self [] = refl
-same_self (x ∷ xs) = and_from (eqb x x) (sameBytes xs xs) (eq-eqb x x refl) (same_self xs)
+same_self (x ∷ xs) = and_from (eqb x x) (same_bytes xs xs) (eq-eqb x x refl) (same_self xs)
 
-module _ (k : Kit) (name : List ℕ) (n : ℕ) (key plain : List ℕ) (named : length name ≡ nameLength) where
-  pub heading-long : length (headingOf name n) ≡ headingLength
-  heading-long = omega (arith, length-append name (bytes_of 4 n), length-bytes 4 n)
+module _ (k : Kit) (name : List ℕ) (n : ℕ) (key plain : List ℕ) (named : length name ≡ name_length) where
+  pub heading_long : length (heading_of name n) ≡ heading_length
+  heading_long = omega (arith, length-append name (bytes_of 4 n), length_bytes 4 n)
 
-  pub heading-in : headingIn (ticketOf k name n key plain) ≡ headingOf name n
-  heading-in = take_at (headingOf name n) (k.sealing key (headingOf name n) plain) headingLength heading-long
+  pub heading_in_is : heading_in (ticket_of k name n key plain) ≡ heading_of name n
+  heading_in_is = take_at (heading_of name n) (k.sealing key (heading_of name n) plain) heading_length heading_long
 
-  pub sealed-in : sealedIn (ticketOf k name n key plain) ≡ k.sealing key (headingOf name n) plain
-  sealed-in = drop_at (headingOf name n) (k.sealing key (headingOf name n) plain) headingLength heading-long
+  pub sealed_in_is : sealed_in (ticket_of k name n key plain) ≡ k.sealing key (heading_of name n) plain
+  sealed_in_is = drop_at (heading_of name n) (k.sealing key (heading_of name n) plain) heading_length heading_long
 
-  pub name_in : nameIn (ticketOf k name n key plain) ≡ name
-  name_in =
-      take-append-le nameLength (headingOf name n) (k.sealing key (headingOf name n) plain) (omega (arith, heading-long))
-      ∙ take_at name (bytes_of 4 n) nameLength named
+  pub name_in_is : name_in (ticket_of k name n key plain) ≡ name
+  name_in_is =
+      take-append-le name_length (heading_of name n) (k.sealing key (heading_of name n) plain) (omega (arith, heading_long))
+      ∙ take_at name (bytes_of 4 n) name_length named
 
-  pub number-in : n < 2 ^ 32 → number_in (ticketOf k name n key plain) ≡ n
-  number-in l =
-      let rest : List ℕ = k.sealing key (headingOf name n) plain in
-      let a : drop nameLength (headingOf name n ++ rest) ≡ bytes_of 4 n ++ rest =
-      drop-append-le nameLength (headingOf name n) rest (omega (arith, heading-long)) ∙ ap (λ (l : List ℕ). l ++ rest) (drop_at name (bytes_of 4 n) nameLength named) in
-      ap (λ (l : List ℕ). number_of (take 4 l)) a ∙ ap number_of (take_at (bytes_of 4 n) rest 4 (length-bytes 4 n)) ∙ number-bytes 4 n l
+  pub number_in_is : n < 2 ^ 32 → number_in (ticket_of k name n key plain) ≡ n
+  number_in_is l =
+      let rest : List ℕ = k.sealing key (heading_of name n) plain in
+      let a : drop name_length (heading_of name n ++ rest) ≡ bytes_of 4 n ++ rest =
+      drop-append-le name_length (heading_of name n) rest (omega (arith, heading_long)) ∙ ap (λ (l : List ℕ). l ++ rest) (drop_at name (bytes_of 4 n) name_length named) in
+      ap (λ (l : List ℕ). number_of (take 4 l)) a ∙ ap number_of (take_at (bytes_of 4 n) rest 4 (length_bytes 4 n)) ∙ number_bytes 4 n l
 
-  pub ticket-long : Lawful k → length key ≡ valueLength → length plain ≤ mostLength → length (ticketOf k name n key plain) ≡ headingLength + (length plain + k.overhead)
-  ticket-long w a b =
-      omega (arith, heading-long, length-append (headingOf name n) (k.sealing key (headingOf name n) plain), w.long key (headingOf name n) plain a heading-long b)
+  pub ticket_long : Lawful k → length key ≡ value_length → length plain ≤ most_length → length (ticket_of k name n key plain) ≡ heading_length + (length plain + k.overhead)
+  ticket_long w a b =
+      omega (arith, heading_long, length-append (heading_of name n) (k.sealing key (heading_of name n) plain), w.long key (heading_of name n) plain a heading_long b)

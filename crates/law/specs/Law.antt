@@ -5,16 +5,16 @@ use Rattle.octets.specs.Buffers.{filled}
 use Rattle.refusal.specs.declared.Refusal.TheVariants.{NoPower}
 use Rattle.fault.specs.declared.Halt.{Halt}
 use Rattle.device.specs.Effects.{Slots, blank}
-use Rattle.session.specs.Limits.{mostLength}
+use Rattle.session.specs.Limits.{most_length}
 use Rattle.layout.specs.declared.Head.{Head}
 use Rattle.tree.specs.declared.Node.{Node}
-use Rattle.tree.specs.Nodes.{treeLevels, IsNode, Covers}
+use Rattle.tree.specs.Nodes.{tree_levels, IsNode, Covers}
 use Rattle.tree.specs.Cover.{In, Free, Distinct, cover, CoversExactly}
-use Rattle.tree.specs.Values.{value_of, key_of, valuedCover, WorkedOut}
-use Rattle.marks.specs.Rows.{roomOf}
-use Rattle.chain.specs.Reading.{Link, valuedOf, slots_of, fileOf, sound}
+use Rattle.tree.specs.Values.{value_of, key_of, valued_cover, WorkedOut}
+use Rattle.marks.specs.Rows.{room_of}
+use Rattle.chain.specs.Reading.{Link, valued_of, slots_of, file_of, sound}
 use Rattle.rules.specs.Kits.{Kit, Lawful}
-use Rattle.rules.specs.Tickets.{ticketOf}
+use Rattle.rules.specs.Tickets.{ticket_of}
 use Rattle.rules.specs.Calls.{Outcome, Issuing, Redeeming}
 use Rattle.rules.specs.Books.{Given, Book}
 use Rattle.rules.specs.Pasts.{Mode, running, Past}
@@ -29,13 +29,13 @@ pub record CoverLaw (k : Kit) (d : ℕ) (root name : List ℕ) (s : Slots) (b : 
   pub head : Head
   pub links : List Link
   -- the file reads as a head and a chain,
-  pub read : fileOf d k.generator k.sealer s ≡ sound head links
+  pub read : file_of d k.generator k.sealer s ≡ sound head links
   pub counted : head.issued ≡ b.issued
   pub named : head.name ≡ name
   -- the chain's nodes are the cover, in order, each with its value in the tree,
-  pub covers : map valuedOf links ≡ valuedCover k.expansion d root b.spent
+  pub covers : map valued_of links ≡ valued_cover k.expansion d root b.spent
   -- the chain leads to a number's key just where that number is unspent,
-  pub keys : (n : ℕ) → n < 2 ^ d → WorkedOut k.expansion d (map valuedOf links) n (key_of k.expansion d root n) ↔ (In n b.spent → ⊥)
+  pub keys : (n : ℕ) → n < 2 ^ d → WorkedOut k.expansion d (map valued_of links) n (key_of k.expansion d root n) ↔ (In n b.spent → ⊥)
   -- and it takes at least as many nodes to cover the unspent numbers and no spent one
   pub least : (ys : List Node) → CoversExactly d b.spent ys → length links ≤ length ys
 
@@ -48,12 +48,12 @@ pub record OnceLaw (k : Kit) (d : ℕ) (root name : List ℕ) (m : Mode) (s : Sl
   -- of the redemptions that gave a state no two were of one number
   pub once : Distinct b.opened
   -- each ticket that was handed out is its heading and its record, sealed under the key of its number
-  pub tickets : (g : Given) → In g b.given → g.ticket ≡ ticketOf k name g.number (key_of k.expansion d root g.number) g.state
+  pub tickets : (g : Given) → In g b.given → g.ticket ≡ ticket_of k name g.number (key_of k.expansion d root g.number) g.state
   -- a ticket whose number is not spent opens as what it was issued for, when it is the next to be redeemed: the buffers must be long
   -- enough, enough slots free, and no cut may come
   pub opens : m ≡ running → (g : Given) → In g b.given → (In g.number b.spent → ⊥) →
       (x : Node) → In x (cover d b.spent) → Covers d x g.number → d - x.depth ≤ length s - 1 - length (cover d b.spent) →
-      (room marks : ℕ) → mostLength ≤ room → roomOf (length s) ≤ marks →
+      (room marks : ℕ) → most_length ≤ room → room_of (length s) ≤ marks →
       (r : Outcome) (state : List ℕ) (t : Slots) (on' joined : Bool) → Redeeming k d s on g.ticket room marks r state t on' joined → Uncut r →
       (r ≡ Ok (length g.state, d - x.depth)) × (state ≡ filled g.state room)
 
@@ -90,11 +90,11 @@ pub record Agree (d : ℕ) (k : Kit) (root : List ℕ) (s : Slots) (b : Book) (k
 pub record AlikeLaw (k : Kit) (d : ℕ) (s : Slots) (on : Bool) (k' : Kit) (s' : Slots) (on' : Bool) : Type 0 where
   pub head : Head
   pub links : List Link
-  pub read : fileOf d k.generator k.sealer s ≡ sound head links
+  pub read : file_of d k.generator k.sealer s ≡ sound head links
   pub head' : Head
   pub links' : List Link
-  pub read' : fileOf d k'.generator k'.sealer s' ≡ sound head' links'
-  pub chains : map valuedOf links ≡ map valuedOf links'
+  pub read' : file_of d k'.generator k'.sealer s' ≡ sound head' links'
+  pub chains : map valued_of links ≡ map valued_of links'
   pub rest : RestBlank s links
   pub rest' : RestBlank s' links'
   pub answers : (asks : List Ask) (replies replies' : List Reply) → Served k d s on asks replies → Served k' d s' on' asks replies' → replies ≡ replies'
@@ -102,14 +102,14 @@ pub record AlikeLaw (k : Kit) (d : ℕ) (s : Slots) (on : Bool) (k' : Kit) (s' :
 -- ---- the whole, of the trees in use
 pub record Law : Type 0 where
   -- a running server's power is on,
-  pub power_is_on : (k : Kit) (root name : List ℕ) (s : Slots) (on : Bool) (b : Book) → Past k treeLevels root name running s on b → on ≡ true
+  pub power_is_on : (k : Kit) (root name : List ℕ) (s : Slots) (on : Bool) (b : Book) → Past k tree_levels root name running s on b → on ≡ true
   -- and its free slots are zero
-  pub free_slots_are_zero : (k : Kit) (root name : List ℕ) (s : Slots) (on : Bool) (b : Book) → Past k treeLevels root name running s on b →
-      (h : Head) (xs : List Link) → fileOf treeLevels k.generator k.sealer s ≡ sound h xs → RestBlank s xs
-  pub cover : (k : Kit) (root name : List ℕ) (m : Mode) (s : Slots) (on : Bool) (b : Book) → Past k treeLevels root name m s on b →
-      CoverLaw k treeLevels root name s b
-  pub once : (k : Kit) (root name : List ℕ) (m : Mode) (s : Slots) (on : Bool) (b : Book) → Lawful k → Past k treeLevels root name m s on b →
-      OnceLaw k treeLevels root name m s on b
+  pub free_slots_are_zero : (k : Kit) (root name : List ℕ) (s : Slots) (on : Bool) (b : Book) → Past k tree_levels root name running s on b →
+      (h : Head) (xs : List Link) → file_of tree_levels k.generator k.sealer s ≡ sound h xs → RestBlank s xs
+  pub cover : (k : Kit) (root name : List ℕ) (m : Mode) (s : Slots) (on : Bool) (b : Book) → Past k tree_levels root name m s on b →
+      CoverLaw k tree_levels root name s b
+  pub once : (k : Kit) (root name : List ℕ) (m : Mode) (s : Slots) (on : Bool) (b : Book) → Lawful k → Past k tree_levels root name m s on b →
+      OnceLaw k tree_levels root name m s on b
   pub alike : (k k' : Kit) (root root' name : List ℕ) (s s' : Slots) (on on' : Bool) (b b' : Book) → Lawful k → Lawful k' →
-      Past k treeLevels root name running s on b → Past k' treeLevels root' name running s' on' b' →
-      Agree treeLevels k root s b k' root' s' b' → AlikeLaw k treeLevels s on k' s' on'
+      Past k tree_levels root name running s on b → Past k' tree_levels root' name running s' on' b' →
+      Agree tree_levels k root s b k' root' s' b' → AlikeLaw k tree_levels s on k' s' on'

@@ -7,8 +7,8 @@ use Rattle.std.proofs.lemmas.Bool.{cases_lt, lt-ltb, le-leb}
 pub shifted : (m d c w : ℕ) → m ≡ min d c → c < w → 1 * 2 ^ m % 2 ^ w ≡ 2 ^ m
 shifted m d c w e l = one_shl m w (omega arith)
 
-pub whole-ltb : (d c p m : ℕ) → m ≡ min d c → p < 2 ^ c → ltb p (2 ^ m) ≡ ltb p (2 ^ d)
-whole-ltb d c p m e l = ⊎_elim
+pub whole_ltb : (d c p m : ℕ) → m ≡ min d c → p < 2 ^ c → ltb p (2 ^ m) ≡ ltb p (2 ^ d)
+whole_ltb d c p m e l = ⊎_elim
     (λ (h : d < c). ap (λ (k : ℕ). ltb p (2 ^ k)) (omega arith))
     (λ (h : c ≤ d).
     let same : m ≡ c = omega arith in
@@ -16,8 +16,8 @@ whole-ltb d c p m e l = ⊎_elim
     ap (λ (k : ℕ). ltb p (2 ^ k)) same ∙ lt-ltb p (2 ^ c) l ∙ sym (lt-ltb p (2 ^ d) (omega arith)))
     (cases_lt d c)
 
-pub whole-leb : (d c p m : ℕ) → m ≡ min d c → p < 2 ^ c → leb p (2 ^ m) ≡ leb p (2 ^ d)
-whole-leb d c p m e l = ⊎_elim
+pub whole_leb : (d c p m : ℕ) → m ≡ min d c → p < 2 ^ c → leb p (2 ^ m) ≡ leb p (2 ^ d)
+whole_leb d c p m e l = ⊎_elim
     (λ (h : d < c). ap (λ (k : ℕ). leb p (2 ^ k)) (omega arith))
     (λ (h : c ≤ d).
     let same : m ≡ c = omega arith in
@@ -25,8 +25,8 @@ whole-leb d c p m e l = ⊎_elim
     ap (λ (k : ℕ). leb p (2 ^ k)) same ∙ le-leb p (2 ^ c) (omega arith) ∙ sym (le-leb p (2 ^ d) (omega arith)))
     (cases_lt d c)
 
-pub rest-is : (d c p m : ℕ) → m ≡ min d c → p < 2 ^ c → p % 2 ^ m ≡ p % 2 ^ d
-rest-is d c p m e l = ⊎_elim
+pub rest_is : (d c p m : ℕ) → m ≡ min d c → p < 2 ^ c → p % 2 ^ m ≡ p % 2 ^ d
+rest_is d c p m e l = ⊎_elim
     (λ (h : d < c). ap (λ (k : ℕ). p % 2 ^ k) (omega arith))
     (λ (h : c ≤ d).
     let same : m ≡ c = omega arith in

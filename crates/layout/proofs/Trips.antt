@@ -4,23 +4,23 @@ use Rattle.std.proofs.lemmas.List.{length-drop, length-take, length-take-le, tak
 use Rattle.std.proofs.lemmas.Bool.{cases_lt, and_parts, eq-eqb, le-leb, eqb-true, leb-true}
 use Rattle.octets.specs.Buffers.{zeros}
 use Rattle.octets.specs.Fields.{bytes_of, number_of}
-use Rattle.octets.proofs.Fielded.{length-bytes, number-bytes, bytes-number, number2, number4}
+use Rattle.octets.proofs.Fielded.{length_bytes, number_bytes, bytes_number, number2, number4}
 use Rattle.layout.specs.declared.Head.{Head}
 use Rattle.layout.specs.declared.NodeFields.{NodeFields}
-use Rattle.layout.specs.Records.{part, allZero, isHead, headFields, encodeHead, head_of, isRecord, nodeFields, encodeNode, node_of, value_of}
+use Rattle.layout.specs.Records.{part, all_zero, is_head, head_fields, encode_head, head_of, is_record, node_fields, encode_node, node_of, value_of}
 use Rattle.layout.specs.Trips.{IsSlot, HeadFits, HeadTrip, NodeFits, NodeTrip}
 
 -- n zeros pass the test, and what passes it is zeros
-pub zeros-pass : (n : ℕ) → allZero (zeros n) ≡ true
-zeros-pass zero = refl
-zeros-pass (suc n) = zeros-pass n
+pub zeros_pass : (n : ℕ) → all_zero (zeros n) ≡ true
+zeros_pass zero = refl
+zeros_pass (suc n) = zeros_pass n
 
-pub pass-zeros : (bs : List ℕ) → allZero bs ≡ true → bs ≡ zeros (length bs)
-pass-zeros [] e = refl
-pass-zeros (b ∷ bs) e =
-    let p = and_parts (eqb b 0) (allZero bs) e in
+pub pass_zeros : (bs : List ℕ) → all_zero bs ≡ true → bs ≡ zeros (length bs)
+pass_zeros [] e = refl
+pass_zeros (b ∷ bs) e =
+    let p = and_parts (eqb b 0) (all_zero bs) e in
     let z : b ≡ 0 = eqb-true b 0 p.0 in
-    let r : bs ≡ zeros (length bs) = pass-zeros bs p.1 in
+    let r : bs ≡ zeros (length bs) = pass_zeros bs p.1 in
     ap (λ (x : ℕ). x ∷ bs) z ∙ ap (λ (xs : List ℕ). 0 ∷ xs) r
 
 -- a part of 64 bytes is bytes
@@ -30,39 +30,39 @@ part_small at n bs small k = ⊎_elim
     (λ (ge : n ≤ k). subst (λ (x : ℕ). x < 256) (sym (get_or_past (part at n bs) k 0 (omega (arith, length-take n (drop at bs))))) (omega arith))
     (cases_lt k n)
 
-part-long : (at n : ℕ) (bs : List ℕ) → length bs ≡ 64 → at + n ≤ 64 → length (part at n bs) ≡ n
-part-long at n bs e h = length-take-le n (drop at bs) (omega (arith, length-drop at bs))
+part_long : (at n : ℕ) (bs : List ℕ) → length bs ≡ 64 → at + n ≤ 64 → length (part at n bs) ≡ n
+part_long at n bs e h = length-take-le n (drop at bs) (omega (arith, length-drop at bs))
 
 -- a field's bytes are those of its number
 field : (at n : ℕ) (bs : List ℕ) → IsSlot bs → at + n ≤ 64 → bytes_of n (number_of (part at n bs)) ≡ part at n bs
-field at n bs s h = bytes-number n (part at n bs) (part-long at n bs s.long h) (part_small at n bs s.small)
+field at n bs s h = bytes_number n (part at n bs) (part_long at n bs s.long h) (part_small at n bs s.small)
 
 -- one part after another
 cut : (at n : ℕ) (bs : List ℕ) → part at n bs ++ drop (at + n) bs ≡ drop at bs
 cut at n bs = ap (λ (x : List ℕ). part at n bs ++ x) (sym (drop-drop n at bs)) ∙ take-append-drop n (drop at bs)
 
-blank_part : (at n : ℕ) (bs : List ℕ) → length bs ≡ 64 → at + n ≤ 64 → allZero (part at n bs) ≡ true → part at n bs ≡ zeros n
-blank_part at n bs e h z = pass-zeros (part at n bs) z ∙ ap zeros (part-long at n bs e h)
+blank_part : (at n : ℕ) (bs : List ℕ) → length bs ≡ 64 → at + n ≤ 64 → all_zero (part at n bs) ≡ true → part at n bs ≡ zeros n
+blank_part at n bs e h z = pass_zeros (part at n bs) z ∙ ap zeros (part_long at n bs e h)
 
-head-back : (d : ℕ) (h : Head) → HeadFits d h → head_of d (encodeHead d h) ≡ Some h
-unfolding head_of encodeHead
-head-back d h f =
+head_back : (d : ℕ) (h : Head) → HeadFits d h → head_of d (encode_head d h) ≡ Some h
+unfolding head_of encode_head
+head_back d h f =
     let a : List ℕ = bytes_of 2 h.first in
     let b : List ℕ = bytes_of 4 h.issued in
     let r : List ℕ = h.generator ∷ h.sealer ∷ zeros 36 in
     let x : List ℕ = a ++ (b ++ (h.name ++ r)) in
-    let d2 : drop 2 x ≡ b ++ (h.name ++ r) = drop_at a (b ++ (h.name ++ r)) 2 (length-bytes 2 h.first) in
-    let d6 : drop 6 x ≡ h.name ++ r = sym (drop-drop 4 2 x) ∙ ap (drop 4) d2 ∙ drop_at b (h.name ++ r) 4 (length-bytes 4 h.issued) in
+    let d2 : drop 2 x ≡ b ++ (h.name ++ r) = drop_at a (b ++ (h.name ++ r)) 2 (length_bytes 2 h.first) in
+    let d6 : drop 6 x ≡ h.name ++ r = sym (drop-drop 4 2 x) ∙ ap (drop 4) d2 ∙ drop_at b (h.name ++ r) 4 (length_bytes 4 h.issued) in
     let d22 : drop 22 x ≡ r = sym (drop-drop 16 6 x) ∙ ap (drop 16) d6 ∙ drop_at h.name r 16 f.name in
     let d24 : drop 24 x ≡ zeros 36 = sym (drop-drop 2 22 x) ∙ ap (drop 2) d22 in
     let one : number_of (take 2 x) ≡ h.first =
-    ap number_of (take_at a (b ++ (h.name ++ r)) 2 (length-bytes 2 h.first)) ∙ number-bytes 2 h.first f.first in
+    ap number_of (take_at a (b ++ (h.name ++ r)) 2 (length_bytes 2 h.first)) ∙ number_bytes 2 h.first f.first in
     let two : number_of (take 4 (drop 2 x)) ≡ h.issued =
-    ap (λ (y : List ℕ). number_of (take 4 y)) d2 ∙ ap number_of (take_at b (h.name ++ r) 4 (length-bytes 4 h.issued)) ∙ number-bytes 4 h.issued f.word in
+    ap (λ (y : List ℕ). number_of (take 4 y)) d2 ∙ ap number_of (take_at b (h.name ++ r) 4 (length_bytes 4 h.issued)) ∙ number_bytes 4 h.issued f.word in
     let three : take 16 (drop 6 x) ≡ h.name = ap (take 16) d6 ∙ take_at h.name r 16 f.name in
     let four : get_or x 22 0 ≡ h.generator = sym (get_or-drop 22 x 0 0) ∙ ap (λ (y : List ℕ). get_or y 0 0) d22 in
     let five : get_or x 23 0 ≡ h.sealer = sym (get_or-drop 22 x 1 0) ∙ ap (λ (y : List ℕ). get_or y 1 0) d22 in
-    let blank : allZero (take 36 (drop 24 x)) ≡ true = ap (λ (y : List ℕ). allZero (take 36 y)) d24 in
+    let blank : all_zero (take 36 (drop 24 x)) ≡ true = ap (λ (y : List ℕ). all_zero (take 36 y)) d24 in
     let same : eqb d d ≡ true = eq-eqb d d refl in
     let few : leb h.issued (2 ^ d) ≡ true = le-leb h.issued (2 ^ d) f.issued in
     rw (same, blank, two, few, one, three, four, five)
@@ -74,13 +74,13 @@ small2 w e s = omega (arith, number2 w e, s 0, s 1)
 small4 : (w : List ℕ) → length w ≡ 4 → ((k : ℕ) → get_or w k 0 < 256) → number_of w < 2 ^ 32
 small4 w e s = omega (arith, number4 w e, s 0, s 1, s 2, s 3)
 
-head-whole : (d : ℕ) (bs : List ℕ) → IsSlot bs → isHead d bs ≡ true → (encodeHead d (headFields bs) ≡ bs) × HeadFits d (headFields bs)
-unfolding encodeHead
-head-whole d bs s t =
+head_whole : (d : ℕ) (bs : List ℕ) → IsSlot bs → is_head d bs ≡ true → (encode_head d (head_fields bs) ≡ bs) × HeadFits d (head_fields bs)
+unfolding encode_head
+head_whole d bs s t =
     let p = and_parts (eqb (get_or bs 0 0) 1) _ t in
     let q = and_parts (eqb (get_or bs 1 0) d) _ p.1 in
-    let u = and_parts (allZero (part 2 2 bs)) _ q.1 in
-    let v = and_parts (allZero (part 28 36 bs)) _ u.1 in
+    let u = and_parts (all_zero (part 2 2 bs)) _ q.1 in
+    let v = and_parts (all_zero (part 28 36 bs)) _ u.1 in
     let b0 : get_or bs 0 0 ≡ 1 = eqb-true _ _ p.0 in
     let b1 : get_or bs 1 0 ≡ d = eqb-true _ _ q.0 in
     let long : length bs ≡ 64 = s.long in
@@ -97,10 +97,10 @@ head-whole d bs s t =
     ∙ sym (drop_more bs 0 0 (omega arith)) in (
       rw (field 4 2 bs s (omega arith), field 6 4 bs s (omega arith), ← c26, cut 10 16 bs, cut 6 4 bs, cut 4 2 bs) top,
       record {
-        first = small2 (part 4 2 bs) (part-long 4 2 bs long (omega arith)) (part_small 4 2 bs s.small);
+        first = small2 (part 4 2 bs) (part_long 4 2 bs long (omega arith)) (part_small 4 2 bs s.small);
         issued = leb-true _ _ v.1;
-        word = small4 (part 6 4 bs) (part-long 6 4 bs long (omega arith)) (part_small 6 4 bs s.small);
-        name = part-long 10 16 bs long (omega arith);
+        word = small4 (part 6 4 bs) (part_long 6 4 bs long (omega arith)) (part_small 6 4 bs s.small);
+        name = part_long 10 16 bs long (omega arith);
       },
     )
 
@@ -109,32 +109,32 @@ passed : {A : Type 0} (b : Bool) (x y : A) → cond b (Some x) None ≡ Some y �
 passed true x y e = (refl, cc)
 passed false x y e = let z : ◌≡◌ {A = ℕ} 0 1 = cc in absurd (omega arith)
 
-head-forth : (d : ℕ) (bs : List ℕ) (h : Head) → IsSlot bs → head_of d bs ≡ Some h → (encodeHead d h ≡ bs) × HeadFits d h
+head_forth : (d : ℕ) (bs : List ℕ) (h : Head) → IsSlot bs → head_of d bs ≡ Some h → (encode_head d h ≡ bs) × HeadFits d h
 unfolding head_of
-head-forth d bs h s e =
-    let p = passed (isHead d bs) (headFields bs) h e in
-    let P : Head → Type 0 = λ g. (encodeHead d g ≡ bs) × HeadFits d g in
-    subst P p.1 (head-whole d bs s p.0)
+head_forth d bs h s e =
+    let p = passed (is_head d bs) (head_fields bs) h e in
+    let P : Head → Type 0 = λ g. (encode_head d g ≡ bs) × HeadFits d g in
+    subst P p.1 (head_whole d bs s p.0)
 
-pub head-trip : HeadTrip
-head-trip = record { back = head-back; forth = head-forth }
+pub head_trip : HeadTrip
+head_trip = record { back = head_back; forth = head_forth }
 
-node-back : (d : ℕ) (x : NodeFields) (v : List ℕ) → NodeFits d x → node_of d (encodeNode x v) ≡ Some x
-unfolding node_of encodeNode bytes_of
-node-back d x v f =
-    let one : number_of (bytes_of 2 x.first) ≡ x.first = number-bytes 2 x.first f.first in
-    let two : number_of (bytes_of 2 x.next) ≡ x.next = number-bytes 2 x.next f.next in
+node_back : (d : ℕ) (x : NodeFields) (v : List ℕ) → NodeFits d x → node_of d (encode_node x v) ≡ Some x
+unfolding node_of encode_node bytes_of
+node_back d x v f =
+    let one : number_of (bytes_of 2 x.first) ≡ x.first = number_bytes 2 x.first f.first in
+    let two : number_of (bytes_of 2 x.next) ≡ x.next = number_bytes 2 x.next f.next in
     rw (one, two, f.node)
 
-node-value : (x : NodeFields) (v : List ℕ) → value_of (encodeNode x v) ≡ v
-unfolding value_of encodeNode bytes_of
-node-value x v = refl
+node_value : (x : NodeFields) (v : List ℕ) → value_of (encode_node x v) ≡ v
+unfolding value_of encode_node bytes_of
+node_value x v = refl
 
-node-whole : (d : ℕ) (bs : List ℕ) → IsSlot bs → isRecord d bs ≡ true → (encodeNode (nodeFields bs) (value_of bs) ≡ bs) × NodeFits d (nodeFields bs)
-unfolding encodeNode value_of
-node-whole d bs s t =
+node_whole : (d : ℕ) (bs : List ℕ) → IsSlot bs → is_record d bs ≡ true → (encode_node (node_fields bs) (value_of bs) ≡ bs) × NodeFits d (node_fields bs)
+unfolding encode_node value_of
+node_whole d bs s t =
     let p = and_parts (eqb (get_or bs 0 0) 2) _ t in
-    let q = and_parts (allZero (part 6 26 bs)) _ p.1 in
+    let q = and_parts (all_zero (part 6 26 bs)) _ p.1 in
     let b0 : get_or bs 0 0 ≡ 2 = eqb-true _ _ p.0 in
     let long : length bs ≡ 64 = s.long in
     let z6 : part 6 26 bs ≡ zeros 26 = blank_part 6 26 bs long (omega arith) q.0 in
@@ -146,17 +146,17 @@ node-whole d bs s t =
       rw (field 2 2 bs s (omega arith), field 4 2 bs s (omega arith), c6, cut 4 2 bs, cut 2 2 bs) top,
       record {
         node = q.1;
-        first = small2 (part 2 2 bs) (part-long 2 2 bs long (omega arith)) (part_small 2 2 bs s.small);
-        next = small2 (part 4 2 bs) (part-long 4 2 bs long (omega arith)) (part_small 4 2 bs s.small);
+        first = small2 (part 2 2 bs) (part_long 2 2 bs long (omega arith)) (part_small 2 2 bs s.small);
+        next = small2 (part 4 2 bs) (part_long 4 2 bs long (omega arith)) (part_small 4 2 bs s.small);
       },
     )
 
-node-forth : (d : ℕ) (bs : List ℕ) (x : NodeFields) → IsSlot bs → node_of d bs ≡ Some x → (encodeNode x (value_of bs) ≡ bs) × NodeFits d x
+node_forth : (d : ℕ) (bs : List ℕ) (x : NodeFields) → IsSlot bs → node_of d bs ≡ Some x → (encode_node x (value_of bs) ≡ bs) × NodeFits d x
 unfolding node_of
-node-forth d bs x s e =
-    let p = passed (isRecord d bs) (nodeFields bs) x e in
-    let P : NodeFields → Type 0 = λ y. (encodeNode y (value_of bs) ≡ bs) × NodeFits d y in
-    subst P p.1 (node-whole d bs s p.0)
+node_forth d bs x s e =
+    let p = passed (is_record d bs) (node_fields bs) x e in
+    let P : NodeFields → Type 0 = λ y. (encode_node y (value_of bs) ≡ bs) × NodeFits d y in
+    subst P p.1 (node_whole d bs s p.0)
 
-pub node-trip : NodeTrip
-node-trip = record { back = node-back; value = node-value; forth = node-forth }
+pub node_trip : NodeTrip
+node_trip = record { back = node_back; value = node_value; forth = node_forth }

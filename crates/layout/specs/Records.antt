@@ -9,18 +9,18 @@ use Rattle.layout.specs.declared.NodeFields.{NodeFields}
 abbrev pub part : ℕ → ℕ → List ℕ → List ℕ
 part at n bs = take n (drop at bs)
 
-abbrev pub allZero : List ℕ → Bool
-allZero [] = true
-allZero (b ∷ bs) = b == 0 && allZero bs
+abbrev pub all_zero : List ℕ → Bool
+all_zero [] = true
+all_zero (b ∷ bs) = b == 0 && all_zero bs
 
 -- ---- the head, field by field: 1 and the levels (a byte each), two zeros, the first index (2 bytes), how many numbers
 -- are issued (4), the key name (16), the generator's number and the sealer's (a byte each), and zeros
-unfoldable pub encodeHead : ℕ → Head → List ℕ
-encodeHead d h = 1 ∷ d ∷ 0 ∷ 0 ∷ (bytes_of 2 h.first ++ (bytes_of 4 h.issued ++ (h.name ++ (h.generator ∷ h.sealer ∷ zeros 36))))
+unfoldable pub encode_head : ℕ → Head → List ℕ
+encode_head d h = 1 ∷ d ∷ 0 ∷ 0 ∷ (bytes_of 2 h.first ++ (bytes_of 4 h.issued ++ (h.name ++ (h.generator ∷ h.sealer ∷ zeros 36))))
 
 -- what stands in the fields of a head
-abbrev pub headFields : List ℕ → Head
-headFields bs = record {
+abbrev pub head_fields : List ℕ → Head
+head_fields bs = record {
   first = number_of (part 4 2 bs);
   issued = number_of (part 6 4 bs);
   name = part 10 16 bs;
@@ -29,33 +29,33 @@ headFields bs = record {
 }
 
 -- laid out as a head: the first two bytes, the zeros, and no more numbers issued than the tree has
-abbrev pub isHead : ℕ → List ℕ → Bool
-isHead d bs = slice_index bs 0 == 1 && (slice_index bs 1 == d && (allZero (part 2 2 bs) && (allZero (part 28 36 bs) && nat_le (number_of (part 6 4 bs)) (2 ^ d))))
+abbrev pub is_head : ℕ → List ℕ → Bool
+is_head d bs = slice_index bs 0 == 1 && (slice_index bs 1 == d && (all_zero (part 2 2 bs) && (all_zero (part 28 36 bs) && nat_le (number_of (part 6 4 bs)) (2 ^ d))))
 
 -- the head that 64 bytes are
 unfoldable pub head_of : ℕ → List ℕ → Option Head
-head_of d bs = cond (isHead d bs) (Some (headFields bs)) None
+head_of d bs = cond (is_head d bs) (Some (head_fields bs)) None
 
 -- ---- a node record, field by field: 2 and the depth (a byte each), the first number and the next index (2 bytes each),
 -- 26 zeros, and the value (32)
-unfoldable pub encodeNode : NodeFields → List ℕ → List ℕ
-encodeNode x v = 2 ∷ x.depth ∷ (bytes_of 2 x.first ++ (bytes_of 2 x.next ++ (zeros 26 ++ v)))
+unfoldable pub encode_node : NodeFields → List ℕ → List ℕ
+encode_node x v = 2 ∷ x.depth ∷ (bytes_of 2 x.first ++ (bytes_of 2 x.next ++ (zeros 26 ++ v)))
 
-abbrev pub nodeFields : List ℕ → NodeFields
-nodeFields bs = record { depth = slice_index bs 1; first = number_of (part 2 2 bs); next = number_of (part 4 2 bs) }
+abbrev pub node_fields : List ℕ → NodeFields
+node_fields bs = record { depth = slice_index bs 1; first = number_of (part 2 2 bs); next = number_of (part 4 2 bs) }
 
 -- the value that a node record holds
 unfoldable pub value_of : List ℕ → List ℕ
 value_of bs = drop 32 bs
 
 -- a tree of d levels has a node at depth e that begins at p: p is a number of the tree, and a multiple of the width
-abbrev pub isNode : ℕ → ℕ → ℕ → Bool
-isNode d e p = nat_le e d && (nat_lt p (2 ^ d) && p % 2 ^ (d - e) == 0)
+abbrev pub is_node : ℕ → ℕ → ℕ → Bool
+is_node d e p = nat_le e d && (nat_lt p (2 ^ d) && p % 2 ^ (d - e) == 0)
 
 -- laid out as a node of the tree
-abbrev pub isRecord : ℕ → List ℕ → Bool
-isRecord d bs = slice_index bs 0 == 2 && (allZero (part 6 26 bs) && isNode d (slice_index bs 1) (number_of (part 2 2 bs)))
+abbrev pub is_record : ℕ → List ℕ → Bool
+is_record d bs = slice_index bs 0 == 2 && (all_zero (part 6 26 bs) && is_node d (slice_index bs 1) (number_of (part 2 2 bs)))
 
 -- the node that 64 bytes are
 unfoldable pub node_of : ℕ → List ℕ → Option NodeFields
-node_of d bs = cond (isRecord d bs) (Some (nodeFields bs)) None
+node_of d bs = cond (is_record d bs) (Some (node_fields bs)) None

@@ -2,7 +2,7 @@
 use Rattle.std.specs.Prelude.{◌≡◌, ℕ, ◌^◌, ◌<◌, ◌≤◌, true, List, length, Some, slice_index}
 use Rattle.layout.specs.declared.Head.{Head}
 use Rattle.layout.specs.declared.NodeFields.{NodeFields}
-use Rattle.layout.specs.Records.{isNode, encodeHead, head_of, encodeNode, node_of, value_of}
+use Rattle.layout.specs.Records.{is_node, encode_head, head_of, encode_node, node_of, value_of}
 
 -- the bytes of a slot
 pub record IsSlot (bs : List ℕ) : Type 0 where
@@ -18,16 +18,16 @@ pub record HeadFits (d : ℕ) (h : Head) : Type 0 where
 
 -- a head comes back from its slot, and a slot that holds a head is that head laid out
 pub record HeadTrip : Type 0 where
-  pub back : (d : ℕ) (h : Head) → HeadFits d h → head_of d (encodeHead d h) ≡ Some h
-  pub forth : (d : ℕ) (bs : List ℕ) (h : Head) → IsSlot bs → head_of d bs ≡ Some h → (encodeHead d h ≡ bs) × HeadFits d h
+  pub back : (d : ℕ) (h : Head) → HeadFits d h → head_of d (encode_head d h) ≡ Some h
+  pub forth : (d : ℕ) (bs : List ℕ) (h : Head) → IsSlot bs → head_of d bs ≡ Some h → (encode_head d h ≡ bs) × HeadFits d h
 
 -- fields that a node of a tree of d levels can have
 pub record NodeFits (d : ℕ) (x : NodeFields) : Type 0 where
-  pub node : isNode d x.depth x.first ≡ true
+  pub node : is_node d x.depth x.first ≡ true
   pub first : x.first < 2 ^ 16
   pub next : x.next < 2 ^ 16
 
 pub record NodeTrip : Type 0 where
-  pub back : (d : ℕ) (x : NodeFields) (v : List ℕ) → NodeFits d x → node_of d (encodeNode x v) ≡ Some x
-  pub value : (x : NodeFields) (v : List ℕ) → value_of (encodeNode x v) ≡ v
-  pub forth : (d : ℕ) (bs : List ℕ) (x : NodeFields) → IsSlot bs → node_of d bs ≡ Some x → (encodeNode x (value_of bs) ≡ bs) × NodeFits d x
+  pub back : (d : ℕ) (x : NodeFields) (v : List ℕ) → NodeFits d x → node_of d (encode_node x v) ≡ Some x
+  pub value : (x : NodeFields) (v : List ℕ) → value_of (encode_node x v) ≡ v
+  pub forth : (d : ℕ) (bs : List ℕ) (x : NodeFields) → IsSlot bs → node_of d bs ≡ Some x → (encode_node x (value_of bs) ≡ bs) × NodeFits d x

@@ -5,7 +5,7 @@
 #![tactic(auto)]
 
 ghost use Rattle.std.specs.Prelude.{◌≡◌, ℕ, ◌<◌, ◌≤◌, length};
-ghost use Rattle.layout.specs.Records.{allZero, isNode, encodeHead, head_of, encodeNode, node_of};
+ghost use Rattle.layout.specs.Records.{all_zero, is_node, encode_head, head_of, encode_node, node_of};
 ghost use Rattle.layout.specs.Trips.{HeadTrip, NodeTrip};
 
 use octets::{clear, get_u16, get_u32, put_u16, put_u32};
@@ -42,7 +42,7 @@ pub struct NodeFields {
 
 /// Lays the head out in a slot.
 pub fn encode_head(levels: u8, head: &Head, slot: &mut [u8; 64])
-    ensures is { slot.new ≡ encodeHead levels head.now }
+    ensures is { slot.new ≡ encode_head levels head.now }
     ensures trip { HeadTrip }
 {
     clear(slot);
@@ -83,7 +83,7 @@ pub fn decode_head(levels: u8, slot: &[u8; 64]) -> Option<Head>
 
 /// Lays a node out in a slot.
 pub fn encode_node(node: &NodeFields, value: &[u8; 32], slot: &mut [u8; 64])
-    ensures is { slot.new ≡ encodeNode node.now value.now }
+    ensures is { slot.new ≡ encode_node node.now value.now }
     ensures trip { NodeTrip }
 {
     clear(slot);
@@ -116,7 +116,7 @@ pub fn decode_node(levels: u8, slot: &[u8; 64]) -> Option<NodeFields>
 
 // Whether a tree of `levels` levels has a node of this depth that begins at this number.
 fn begins_node(levels: u8, depth: u8, first: u16) -> bool
-    ensures { result ≡ isNode levels depth first }
+    ensures { result ≡ is_node levels depth first }
 {
     if depth > levels {
         return false;
@@ -129,7 +129,7 @@ fn begins_node(levels: u8, depth: u8, first: u16) -> bool
 
 // Whether every byte is zero.
 fn is_blank(bytes: &[u8]) -> bool
-    ensures { result ≡ allZero bytes.now }
+    ensures { result ≡ all_zero bytes.now }
 {
     for b in bytes {
         if *b != 0 {

@@ -3,22 +3,22 @@ use Rattle.std.specs.Prelude.{◌≡◌, ℕ, zero, suc, ◌<◌, ◌≤◌, Boo
 use Rattle.octets.specs.Buffers.{zeros}
 
 -- how many bytes the marks of n slots take
-unfoldable pub roomOf : ℕ → ℕ
-roomOf n = n
+unfoldable pub room_of : ℕ → ℕ
+room_of n = n
 
 -- whether slot i is marked, and the row once it is
-unfoldable pub isMarked : List ℕ → ℕ → Bool
-isMarked row i = not (slice_index row i == 0)
+unfoldable pub is_marked : List ℕ → ℕ → Bool
+is_marked row i = not (slice_index row i == 0)
 
-unfoldable pub withMark : List ℕ → ℕ → List ℕ
-withMark row i = slice_set row i 1
+unfoldable pub with_mark : List ℕ → ℕ → List ℕ
+with_mark row i = slice_set row i 1
 
 -- all that users of a row know of it
 pub record MarkLaws : Type 0 where
-  pub none : (n i : ℕ) → isMarked (zeros n) i ≡ false
-  pub same : (row : List ℕ) (n i : ℕ) → roomOf n ≤ length row → i < n → isMarked (withMark row i) i ≡ true
-  pub other : (row : List ℕ) (i k : ℕ) → (k ≢ i) → isMarked (withMark row i) k ≡ isMarked row k
-  pub long : (row : List ℕ) (i : ℕ) → length (withMark row i) ≡ length row
+  pub none : (n i : ℕ) → is_marked (zeros n) i ≡ false
+  pub same : (row : List ℕ) (n i : ℕ) → room_of n ≤ length row → i < n → is_marked (with_mark row i) i ≡ true
+  pub other : (row : List ℕ) (i k : ℕ) → (k ≢ i) → is_marked (with_mark row i) k ≡ is_marked row k
+  pub long : (row : List ℕ) (i : ℕ) → length (with_mark row i) ≡ length row
 
 -- a slot is listed unless it is marked
 abbrev pub listed : Bool → ℕ → List ℕ → List ℕ
@@ -28,7 +28,7 @@ listed false i is = i ∷ is
 -- of the n slots from i on, those without a mark, in increasing order
 abbrev pub unmarked : List ℕ → ℕ → ℕ → List ℕ
 unmarked row i zero = []
-unmarked row i (suc n) = listed (isMarked row i) i (unmarked row (suc i) n)
+unmarked row i (suc n) = listed (is_marked row i) i (unmarked row (suc i) n)
 
 abbrev pub first_of : List ℕ → Option ℕ
 first_of [] = None

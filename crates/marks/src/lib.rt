@@ -2,18 +2,18 @@
 #![tactic(auto)]
 
 ghost use Rattle.std.specs.Prelude.{◌≡◌, ℕ, ◌-◌, length};
-ghost use Rattle.marks.specs.Rows.{roomOf, isMarked, withMark, unmarked, first_of, MarkLaws};
+ghost use Rattle.marks.specs.Rows.{room_of, is_marked, with_mark, unmarked, first_of, MarkLaws};
 
 /// How many bytes the marks of so many slots take.
 pub fn room(slots: usize) -> usize
-    ensures { result ≡ roomOf slots }
+    ensures { result ≡ room_of slots }
 {
     slots // a byte for each
 }
 
 /// Marks a slot. A slot that the row has no room for stays as it is.
 pub fn mark(row: &mut [u8], slot: usize)
-    ensures is { row.new ≡ withMark row.old slot }
+    ensures is { row.new ≡ with_mark row.old slot }
     ensures laws { MarkLaws }
 {
     if slot < row.len() {
@@ -23,7 +23,7 @@ pub fn mark(row: &mut [u8], slot: usize)
 
 /// Whether a slot is marked.
 pub fn is_marked(row: &[u8], slot: usize) -> bool
-    ensures is { result ≡ isMarked row.now slot }
+    ensures is { result ≡ is_marked row.now slot }
     ensures laws { MarkLaws }
 {
     slot < row.len() && row[slot] != 0

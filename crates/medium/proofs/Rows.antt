@@ -4,17 +4,17 @@ use lib.Seq.{paste, paste-zero}
 use borrow.Rule.Slice.PartMut.{put_mid}
 use Rattle.std.proofs.lemmas.List.{drop-drop, drop-take, take-take, take_at, drop_at, take_all, drop_all, append-nil, take-append-le, drop-append-le, take-append-drop, length-take, length-drop, length-append}
 use Rattle.device.specs.Effects.{torn}
-use Rattle.medium.specs.Rows.{slotsIn}
+use Rattle.medium.specs.Rows.{slots_in}
 
 -- there are as many slots as asked for
-pub many : (w n : ℕ) (row : List ℕ) → length (slotsIn w n row) ≡ n
-unfolding slotsIn
+pub many : (w n : ℕ) (row : List ℕ) → length (slots_in w n row) ≡ n
+unfolding slots_in
 many w zero row = refl
 many w (suc n) row = ap suc (many w n (drop w row))
 
 -- slot i begins at byte i w
-pub place : (w n : ℕ) (row : List ℕ) (i : ℕ) → i < n → get_or (slotsIn w n row) i [] ≡ take w (drop (i * w) row)
-unfolding slotsIn
+pub place : (w n : ℕ) (row : List ℕ) (i : ℕ) → i < n → get_or (slots_in w n row) i [] ≡ take w (drop (i * w) row)
+unfolding slots_in
 place w zero row i h = absurd (omega arith)
 place w (suc n) row zero h = rw zero-mul
 place w (suc n) row (suc i) h =
@@ -29,7 +29,7 @@ ends w n i h =
     omega arith
 
 -- each has w bytes, where the row has room
-pub sized : (w n : ℕ) (row : List ℕ) → n * w ≤ length row → (i : ℕ) → i < n → length (get_or (slotsIn w n row) i []) ≡ w
+pub sized : (w n : ℕ) (row : List ℕ) → n * w ≤ length row → (i : ℕ) → i < n → length (get_or (slots_in w n row) i []) ≡ w
 sized w n row f i h =
     let e = ends w n i h in
     ap length (place w n row i h) ∙ simp (length-take, length-drop) (omega arith)
@@ -38,12 +38,12 @@ sized w n row f i h =
 abbrev stored : ℕ → List ℕ → ℕ → List ℕ → List ℕ
 stored w row at new = take at row ++ (new ++ drop (at + w) row)
 
-slotsIn-stored : (w n i : ℕ) (row new : List ℕ) → length new ≡ w → i < n → n * w ≤ length row → slotsIn w n (stored w row (i * w) new) ≡ set (slotsIn w n row) i new
-unfolding slotsIn
-slotsIn-stored w zero i row new l h f = absurd (omega arith)
-slotsIn-stored w (suc n) zero row new l h f =
+slots_in_stored : (w n i : ℕ) (row new : List ℕ) → length new ≡ w → i < n → n * w ≤ length row → slots_in w n (stored w row (i * w) new) ≡ set (slots_in w n row) i new
+unfolding slots_in
+slots_in_stored w zero i row new l h f = absurd (omega arith)
+slots_in_stored w (suc n) zero row new l h f =
     rw (zero-mul w, zero-add w, take_at new (drop w row) w l, drop_at new (drop w row) w l)
-slotsIn-stored w (suc n) (suc i) row new l h f =
+slots_in_stored w (suc n) (suc i) row new l h f =
     let at : suc i * w ≡ w + i * w = suc-mul i w ∙ omega arith in
     let room : suc n * w ≡ n * w + w = suc-mul n w in
     let X : List ℕ = new ++ drop (suc i * w + w) row in
@@ -52,12 +52,12 @@ slotsIn-stored w (suc n) (suc i) row new l h f =
     let past : drop (suc i * w + w) row ≡ drop (i * w + w) (drop w row) = ap (λ k. drop k row) (omega arith) ∙ sym (drop-drop (i * w + w) w row) in
     let kept : drop w (take (suc i * w) row) ≡ take (i * w) (drop w row) = ap (λ k. drop w (take k row)) at ∙ drop-take w (i * w) row in
     let back : drop w (stored w row (suc i * w) new) ≡ stored w (drop w row) (i * w) new = drop-append-le w (take (suc i * w) row) X long ∙ cc in
-    let rest : slotsIn w n (stored w (drop w row) (i * w) new) ≡ set (slotsIn w n (drop w row)) i new = slotsIn-stored w n i (drop w row) new l (omega arith) (simp length-drop (omega arith)) in
+    let rest : slots_in w n (stored w (drop w row) (i * w) new) ≡ set (slots_in w n (drop w row)) i new = slots_in_stored w n i (drop w row) new l (omega arith) (simp length-drop (omega arith)) in
     cc
 
 -- the first m bytes, pasted over a slot, are that slot torn
-paste-torn : (w at m : ℕ) (row b : List ℕ) → m ≤ w → at + w ≤ length row → paste row at b m ≡ stored w row at (torn m (take w (drop at row)) b)
-paste-torn w at m row b k f =
+paste_torn : (w at m : ℕ) (row b : List ℕ) → m ≤ w → at + w ≤ length row → paste row at b m ≡ stored w row at (torn m (take w (drop at row)) b)
+paste_torn w at m row b k f =
     let old : List ℕ = take w (drop at row) in
     let rest : drop (at + m) row ≡ drop m old ++ drop (at + w) row =
     sym (drop-drop m at row)
@@ -69,23 +69,23 @@ paste-torn w at m row b k f =
     ∙ ap (λ t. take at row ++ t) (sym (append_assoc (take m b) (drop m old) (drop (at + w) row)))
 
 -- the first m bytes of b in the place of slot i: that slot is torn, and every other as it was
-pub pasted : (w n : ℕ) (row : List ℕ) → n * w ≤ length row → (i m : ℕ) (b : List ℕ) → i < n → m ≤ w → length b ≡ w → slotsIn w n (paste row (i * w) b m) ≡ set (slotsIn w n row) i (torn m (get_or (slotsIn w n row) i []) b)
+pub pasted : (w n : ℕ) (row : List ℕ) → n * w ≤ length row → (i m : ℕ) (b : List ℕ) → i < n → m ≤ w → length b ≡ w → slots_in w n (paste row (i * w) b m) ≡ set (slots_in w n row) i (torn m (get_or (slots_in w n row) i []) b)
 pasted w n row f i m b h k l =
     let e = ends w n i h in
     let old : List ℕ = take w (drop (i * w) row) in
     let len : length (torn m old b) ≡ w = simp (length-append, length-take, length-drop) (omega arith) in
-    ap (slotsIn w n) (paste-torn w (i * w) m row b k (omega arith))
-    ∙ slotsIn-stored w n i row (torn m old b) len h f
-    ∙ ap (λ o. set (slotsIn w n row) i (torn m o b)) (sym (place w n row i h))
+    ap (slots_in w n) (paste_torn w (i * w) m row b k (omega arith))
+    ∙ slots_in_stored w n i row (torn m old b) len h f
+    ∙ ap (λ o. set (slots_in w n row) i (torn m o b)) (sym (place w n row i h))
 
 -- all of its bytes: that slot is new
-pub whole : (w n : ℕ) (row : List ℕ) → n * w ≤ length row → (i : ℕ) (b : List ℕ) → i < n → length b ≡ w → slotsIn w n (paste row (i * w) b w) ≡ set (slotsIn w n row) i b
+pub whole : (w n : ℕ) (row : List ℕ) → n * w ≤ length row → (i : ℕ) (b : List ℕ) → i < n → length b ≡ w → slots_in w n (paste row (i * w) b w) ≡ set (slots_in w n row) i b
 whole w n row f i b h l =
-    let old : List ℕ = get_or (slotsIn w n row) i [] in
+    let old : List ℕ = get_or (slots_in w n row) i [] in
     let none : drop w old ≡ [] = drop_all w old (omega (arith, sized w n row f i h)) in
     let all : take w b ≡ b = take_all w b (omega arith) in
     let new : torn w old b ≡ b = ap (λ t. take w b ++ t) none ∙ append-nil (take w b) ∙ all in
-    pasted w n row f i w b h (omega arith) l ∙ ap (set (slotsIn w n row) i) new
+    pasted w n row f i w b h (omega arith) l ∙ ap (set (slots_in w n row) i) new
 
 -- nothing pasted
 pub paste_none : (row : List ℕ) (at : ℕ) (b : List ℕ) → paste row at b 0 ≡ row

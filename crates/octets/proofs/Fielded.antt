@@ -36,24 +36,24 @@ pub number8 : (w : List ℕ) → length w ≡ 8 → number_of w ≡ get_or w 0 0
 unfolding number_of
 number8 w e = ap number_of (spelled w 8 e) ∙ omega arith
 
-pub length-bytes : (n v : ℕ) → length (bytes_of n v) ≡ n
+pub length_bytes : (n v : ℕ) → length (bytes_of n v) ≡ n
 unfolding bytes_of
-length-bytes zero v = refl
-length-bytes (suc n) v = length_push (bytes_of n (v / 256)) (v % 256) ∙ add-one _ ∙ ap suc (length-bytes n (v / 256))
+length_bytes zero v = refl
+length_bytes (suc n) v = length_push (bytes_of n (v / 256)) (v % 256) ∙ add-one _ ∙ ap suc (length_bytes n (v / 256))
 
-pub number-bytes : (n v : ℕ) → v < 256 ^ n → number_of (bytes_of n v) ≡ v
+pub number_bytes : (n v : ℕ) → v < 256 ^ n → number_of (bytes_of n v) ≡ v
 unfolding bytes_of number_of
-number-bytes zero v h = omega arith
-number-bytes (suc n) v h =
+number_bytes zero v h = omega arith
+number_bytes (suc n) v h =
     let p : v < 256 ^ n * 256 = subst (λ (m : ℕ). v < m) (pow-suc 256 n) h in
     number_push 256 (bytes_of n (v / 256)) (v % 256)
-    ∙ rw (number-bytes n (v / 256) (div_below v 256 (256 ^ n) (omega arith) p)) (div-add-mod' v 256)
+    ∙ rw (number_bytes n (v / 256) (div_below v 256 (256 ^ n) (omega arith) p)) (div-add-mod' v 256)
 
 -- bytes are those of the number that they write
-pub bytes-number : (n : ℕ) (bs : List ℕ) → length bs ≡ n → ((k : ℕ) → get_or bs k 0 < 256) → bytes_of n (number_of bs) ≡ bs
+pub bytes_number : (n : ℕ) (bs : List ℕ) → length bs ≡ n → ((k : ℕ) → get_or bs k 0 < 256) → bytes_of n (number_of bs) ≡ bs
 unfolding bytes_of number_of
-bytes-number zero bs e small = sym (nil_from_length bs e)
-bytes-number (suc n) bs e small =
+bytes_number zero bs e small = sym (nil_from_length bs e)
+bytes_number (suc n) bs e small =
     let front : List ℕ = take n bs in
     let d : ℕ = get_or bs n 0 in
     let low : d < 256 = small n in
@@ -67,16 +67,16 @@ bytes-number (suc n) bs e small =
     (cases_lt k n) in
     let high : number_of bs / 256 ≡ q = omega arith in
     let end : number_of bs % 256 ≡ d = omega arith in
-    rw (high, end, bytes-number n front long rest) (sym split)
+    rw (high, end, bytes_number n front long rest) (sym split)
 
 -- a part written right after a front
-pub paste-at : (p r s : List ℕ) (n m : ℕ) → length p ≡ n → length s ≡ m → paste (p ++ r) n s m ≡ p ++ s ++ drop m r
-paste-at p r s n m e f =
+pub paste_at : (p r s : List ℕ) (n m : ℕ) → length p ≡ n → length s ≡ m → paste (p ++ r) n s m ≡ p ++ s ++ drop m r
+paste_at p r s n m e f =
     rw (take_at p r n e, take_all m s (omega arith), ← drop-drop m n (p ++ r), drop_at p r n e)
 
-one-small : (b k : ℕ) → b < 256 → get_or (b ∷ []) k 0 < 256
-one-small b zero h = h
-one-small b (suc k) h = omega arith
+one_small : (b k : ℕ) → b < 256 → get_or (b ∷ []) k 0 < 256
+one_small b zero h = h
+one_small b (suc k) h = omega arith
 
 -- every byte of a field fits
 pub bytes_small : (n v k : ℕ) → get_or (bytes_of n v) k 0 < 256
@@ -85,9 +85,9 @@ bytes_small zero v k = omega arith
 bytes_small (suc n) v k =
     let low : v % 256 < 256 = omega arith in
     ⊎_elim
-    (λ (lt : k < n). subst (λ (x : ℕ). x < 256) (sym (get_or_append_left (bytes_of n (v / 256)) (v % 256 ∷ []) 0 k (omega (arith, length-bytes n (v / 256))))) (bytes_small n (v / 256) k))
-    (λ (ge : n ≤ k). subst (λ (x : ℕ). x < 256) (sym (get_or-append_right (bytes_of n (v / 256)) (v % 256 ∷ []) n k 0 (length-bytes n (v / 256)) ge)) (one-small (v % 256) (k - n) low))
+    (λ (lt : k < n). subst (λ (x : ℕ). x < 256) (sym (get_or_append_left (bytes_of n (v / 256)) (v % 256 ∷ []) 0 k (omega (arith, length_bytes n (v / 256))))) (bytes_small n (v / 256) k))
+    (λ (ge : n ≤ k). subst (λ (x : ℕ). x < 256) (sym (get_or-append_right (bytes_of n (v / 256)) (v % 256 ∷ []) n k 0 (length_bytes n (v / 256)) ge)) (one_small (v % 256) (k - n) low))
     (cases_lt k n)
 
 pub fields : FieldLaws
-fields = record { long = length-bytes; back = number-bytes; forth = bytes-number; small = bytes_small }
+fields = record { long = length_bytes; back = number_bytes; forth = bytes_number; small = bytes_small }

@@ -2,17 +2,17 @@
 use Rattle.std.proofs.Common.{◌≡◌, ℕ, zero, suc, ◌+◌, ◌-◌, ◌<◌, [], ◌∷◌, ◌++◌, ap, ◌∙◌, suc-add, zero-add, arith}
 use Rattle.device.specs.Effects.{blank}
 use Rattle.fault.specs.declared.Step.TheVariants.{Make}
-use Rattle.steps.specs.OneStep.{writeOf}
-use Rattle.rules.specs.Files.{blankWrites}
+use Rattle.steps.specs.OneStep.{write_of}
+use Rattle.rules.specs.Files.{blank_writes}
 
-pub blank-split : (i a b : ℕ) → blankWrites i (a + b) ≡ blankWrites i a ++ blankWrites (i + a) b
-blank-split i zero b = ap (blankWrites i) (zero-add b) ∙ ap (λ j. blankWrites j b) (omega arith)
-blank-split i (suc a) b =
-    ap (blankWrites i) (suc-add a b) ∙ ap (λ x. writeOf i blank Make ∷ x) (blank-split (suc i) a b ∙ ap (λ j. blankWrites (suc i) a ++ blankWrites j b) (omega arith))
+pub blank_split : (i a b : ℕ) → blank_writes i (a + b) ≡ blank_writes i a ++ blank_writes (i + a) b
+blank_split i zero b = ap (blank_writes i) (zero-add b) ∙ ap (λ j. blank_writes j b) (omega arith)
+blank_split i (suc a) b =
+    ap (blank_writes i) (suc-add a b) ∙ ap (λ x. write_of i blank Make ∷ x) (blank_split (suc i) a b ∙ ap (λ j. blank_writes (suc i) a ++ blank_writes j b) (omega arith))
 
-pub blank-more : (n : ℕ) → blankWrites 0 (n + 1) ≡ blankWrites 0 n ++ (writeOf n blank Make ∷ [])
-blank-more n = blank-split 0 n 1 ∙ ap (λ j. blankWrites 0 n ++ (writeOf j blank Make ∷ [])) (zero-add n)
+pub blank_more : (n : ℕ) → blank_writes 0 (n + 1) ≡ blank_writes 0 n ++ (write_of n blank Make ∷ [])
+blank_more n = blank_split 0 n 1 ∙ ap (λ j. blank_writes 0 n ++ (write_of j blank Make ∷ [])) (zero-add n)
 
-pub blank-around : (n i : ℕ) → i < n → blankWrites 0 n ≡ (blankWrites 0 i ++ (writeOf i blank Make ∷ [])) ++ blankWrites (i + 1) (n - (i + 1))
-blank-around n i h =
-    ap (blankWrites 0) (omega arith) ∙ blank-split 0 (i + 1) (n - (i + 1)) ∙ ap (λ x. x ++ blankWrites (0 + (i + 1)) (n - (i + 1))) (blank-more i) ∙ ap (λ j. (blankWrites 0 i ++ (writeOf i blank Make ∷ [])) ++ blankWrites j (n - (i + 1))) (zero-add (i + 1))
+pub blank_around : (n i : ℕ) → i < n → blank_writes 0 n ≡ (blank_writes 0 i ++ (write_of i blank Make ∷ [])) ++ blank_writes (i + 1) (n - (i + 1))
+blank_around n i h =
+    ap (blank_writes 0) (omega arith) ∙ blank_split 0 (i + 1) (n - (i + 1)) ∙ ap (λ x. x ++ blank_writes (0 + (i + 1)) (n - (i + 1))) (blank_more i) ∙ ap (λ j. (blank_writes 0 i ++ (write_of i blank Make ∷ [])) ++ blank_writes j (n - (i + 1))) (zero-add (i + 1))

@@ -6,30 +6,30 @@ use Rattle.refusal.specs.declared.Refusal.TheVariants.{ShortBuffer, SlotCount}
 use Rattle.device.specs.Effects.{Slots}
 use Rattle.fault.specs.declared.Halt.{Halt}
 use Rattle.fault.specs.Faults.{plainly}
-use Rattle.marks.specs.Rows.{roomOf}
+use Rattle.marks.specs.Rows.{room_of}
 use Rattle.chain.specs.declared.Survey.{Survey}
-use Rattle.chain.specs.Reading.{Link, File, badHead, badLink, uncovered, sound, fileOf}
-use Rattle.chain.specs.Listing.{markedAll}
-use Rattle.chain.specs.Outcome.{judgedAs, reading_of, answer_of, marksOf}
+use Rattle.chain.specs.Reading.{Link, File, bad_head, bad_link, uncovered, sound, file_of}
+use Rattle.chain.specs.Listing.{marked_all}
+use Rattle.chain.specs.Outcome.{judged_as, reading_of, answer_of, marks_of}
 use Rattle.rules.specs.Kits.{Kit}
 use Rattle.steps.specs.Writes.{Ran, through, failed}
-use Rattle.rules.specs.Files.{sweepWrites}
-use Rattle.rules.specs.Calls.{Sound, Fitting, countFits, slotsLeast, slotsMost, reopenVerdict, read_by, readAs, Reopening, faulty, cut, swept}
+use Rattle.rules.specs.Files.{sweep_writes}
+use Rattle.rules.specs.Calls.{Sound, Fitting, count_fits, slots_least, slots_most, reopen_verdict, read_by, read_as, Reopening, faulty, cut, swept}
 use Rattle.opening.specs.Sweeps.{Admitted}
 
 -- ---- the checks
-pub admit-short : (d : ℕ) (s : Slots) (m : ℕ) → m < roomOf (length s) → reopenVerdict d s m ≡ Err (plainly ShortBuffer)
-admit-short d s m h = cond-false (leb (roomOf (length s)) m) (cond (countFits d s) (Ok tt) (Err (plainly SlotCount))) (Err (plainly ShortBuffer)) (lt-leb (roomOf (length s)) m h)
+pub admit_short : (d : ℕ) (s : Slots) (m : ℕ) → m < room_of (length s) → reopen_verdict d s m ≡ Err (plainly ShortBuffer)
+admit_short d s m h = cond-false (leb (room_of (length s)) m) (cond (count_fits d s) (Ok tt) (Err (plainly SlotCount))) (Err (plainly ShortBuffer)) (lt-leb (room_of (length s)) m h)
 
-pub admitted : (d : ℕ) (s : Slots) (m : ℕ) (r : Result ℕ Halt) → roomOf (length s) ≤ m → Fitting d s r → Admitted d s m r
+pub admitted : (d : ℕ) (s : Slots) (m : ℕ) (r : Result ℕ Halt) → room_of (length s) ≤ m → Fitting d s r → Admitted d s m r
 admitted d s m (Ok n) h f = (
-  cond-true (leb (roomOf (length s)) m) (cond (countFits d s) (Ok tt) (Err (plainly SlotCount))) (Err (plainly ShortBuffer)) (le-leb (roomOf (length s)) m h)
-      ∙ cond-true (countFits d s) (Ok tt) (Err (plainly SlotCount)) f.0,
+  cond-true (leb (room_of (length s)) m) (cond (count_fits d s) (Ok tt) (Err (plainly SlotCount))) (Err (plainly ShortBuffer)) (le-leb (room_of (length s)) m h)
+      ∙ cond-true (count_fits d s) (Ok tt) (Err (plainly SlotCount)) f.0,
   f.1,
 )
 admitted d s m (Err x) h f =
-    cond-true (leb (roomOf (length s)) m) (cond (countFits d s) (Ok tt) (Err (plainly SlotCount))) (Err (plainly ShortBuffer)) (le-leb (roomOf (length s)) m h)
-    ∙ cond-false (countFits d s) (Ok tt) (Err (plainly SlotCount)) f.0
+    cond-true (leb (room_of (length s)) m) (cond (count_fits d s) (Ok tt) (Err (plainly SlotCount))) (Err (plainly ShortBuffer)) (le-leb (room_of (length s)) m h)
+    ∙ cond-false (count_fits d s) (Ok tt) (Err (plainly SlotCount)) f.0
     ∙ ap Err (sym f.1)
 
 -- what a reopening that goes on knows of its slots and its marks
@@ -38,55 +38,55 @@ fits_by true true e = (refl, refl)
 fits_by true false e = let z : ◌≡◌ {A = ℕ} 0 1 = cc in absurd (omega arith)
 fits_by false b e = let z : ◌≡◌ {A = ℕ} 0 1 = cc in absurd (omega arith)
 
-pub room_for : (d : ℕ) (s : Slots) (m : ℕ) → reopenVerdict d s m ≡ Ok tt → roomOf (length s) ≤ m
-room_for d s m e = leb-true (roomOf (length s)) m (fits_by (leb (roomOf (length s)) m) (countFits d s) e).0
+pub room_for : (d : ℕ) (s : Slots) (m : ℕ) → reopen_verdict d s m ≡ Ok tt → room_of (length s) ≤ m
+room_for d s m e = leb-true (room_of (length s)) m (fits_by (leb (room_of (length s)) m) (count_fits d s) e).0
 
-some-slots : (d : ℕ) (s : Slots) (m : ℕ) → reopenVerdict d s m ≡ Ok tt → 0 < length s
-some-slots d s m e =
-    let p = and_parts (leb (slotsLeast d) (length s)) (leb (length s) slotsMost) (fits_by (leb (roomOf (length s)) m) (countFits d s) e).1 in
+some_slots : (d : ℕ) (s : Slots) (m : ℕ) → reopen_verdict d s m ≡ Ok tt → 0 < length s
+some_slots d s m e =
+    let p = and_parts (leb (slots_least d) (length s)) (leb (length s) slots_most) (fits_by (leb (room_of (length s)) m) (count_fits d s) e).1 in
     let h : d + 2 ≤ length s = leb-true (d + 2) (length s) p.0 in
     omega arith
 
 -- ---- reading
-reading-is : (d g w m : ℕ) (s : Slots) → reopenVerdict d s m ≡ Ok tt → reading_of d g w m s true ≡ judgedAs (fileOf d g w s)
-reading-is d g w m s e =
-    let long : ltb m (roomOf (length s)) ≡ false = le-ltb m (roomOf (length s)) (room_for d s m e) in
-    let some : ltb 0 (length s) ≡ true = lt-ltb 0 (length s) (some-slots d s m e) in
+reading_is : (d g w m : ℕ) (s : Slots) → reopen_verdict d s m ≡ Ok tt → reading_of d g w m s true ≡ judged_as (file_of d g w s)
+reading_is d g w m s e =
+    let long : ltb m (room_of (length s)) ≡ false = le-ltb m (room_of (length s)) (room_for d s m e) in
+    let some : ltb 0 (length s) ≡ true = lt-ltb 0 (length s) (some_slots d s m e) in
     rw (long, some)
 
-faulty-as : (d : ℕ) (f : File) (h : Halt) → ◌≡◌ {A = Result Survey Halt} (Err h) (answer_of d None (judgedAs f)) → readAs true f ≡ Err h
-faulty-as d badHead h e = cc
-faulty-as d (badLink i) h e = cc
-faulty-as d (uncovered n) h e = cc
-faulty-as d (sound x xs) h e = let z : ◌≡◌ {A = ℕ} 0 1 = cc in absurd (omega arith)
+faulty_as : (d : ℕ) (f : File) (h : Halt) → ◌≡◌ {A = Result Survey Halt} (Err h) (answer_of d None (judged_as f)) → read_as true f ≡ Err h
+faulty_as d bad_head h e = cc
+faulty_as d (bad_link i) h e = cc
+faulty_as d (uncovered n) h e = cc
+faulty_as d (sound x xs) h e = let z : ◌≡◌ {A = ℕ} 0 1 = cc in absurd (omega arith)
 
-swept_as : (d m : ℕ) (f : File) (x : Survey) (row : List ℕ) → ◌≡◌ {A = Result Survey Halt} (Ok x) (answer_of d None (judgedAs f)) → row ≡ marksOf m (judgedAs f) →
-    (y : Sound) × (readAs true f ≡ Ok y) × (row ≡ markedAll (zeros m) y.1)
-swept_as d m badHead x row e q = let z : ◌≡◌ {A = ℕ} 0 1 = cc in absurd (omega arith)
-swept_as d m (badLink i) x row e q = let z : ◌≡◌ {A = ℕ} 0 1 = cc in absurd (omega arith)
+swept_as : (d m : ℕ) (f : File) (x : Survey) (row : List ℕ) → ◌≡◌ {A = Result Survey Halt} (Ok x) (answer_of d None (judged_as f)) → row ≡ marks_of m (judged_as f) →
+    (y : Sound) × (read_as true f ≡ Ok y) × (row ≡ marked_all (zeros m) y.1)
+swept_as d m bad_head x row e q = let z : ◌≡◌ {A = ℕ} 0 1 = cc in absurd (omega arith)
+swept_as d m (bad_link i) x row e q = let z : ◌≡◌ {A = ℕ} 0 1 = cc in absurd (omega arith)
 swept_as d m (uncovered n) x row e q = let z : ◌≡◌ {A = ℕ} 0 1 = cc in absurd (omega arith)
 swept_as d m (sound h xs) x row e q = ((h, xs), refl, q)
 
 -- the slots u after the restart are the slots s before it
-pub faulty-from : (k : Kit) (d g w m : ℕ) (s u : Slots) (on p : Bool) (h : Halt) → k.generator ≡ g → k.sealer ≡ w → u ≡ s → p ≡ true → reopenVerdict d s m ≡ Ok tt →
+pub faulty_from : (k : Kit) (d g w m : ℕ) (s u : Slots) (on p : Bool) (h : Halt) → k.generator ≡ g → k.sealer ≡ w → u ≡ s → p ≡ true → reopen_verdict d s m ≡ Ok tt →
     Err h ≡ answer_of d None (reading_of d g w m u p) → Reopening k d s on m (Err h) u p
-faulty-from k d g w m s u on p h eg ew eu ep ok a =
-    let e : Err h ≡ answer_of d None (judgedAs (fileOf d k.generator k.sealer s)) = cc (reading-is d k.generator k.sealer m s ok) in
-    faulty h ok (faulty-as d (fileOf d k.generator k.sealer s) h e) refl eu ep
+faulty_from k d g w m s u on p h eg ew eu ep ok a =
+    let e : Err h ≡ answer_of d None (judged_as (file_of d k.generator k.sealer s)) = cc (reading_is d k.generator k.sealer m s ok) in
+    faulty h ok (faulty_as d (file_of d k.generator k.sealer s) h e) refl eu ep
 
-swept-by : (k : Kit) (d m : ℕ) (s : Slots) (on : Bool) (f : Sound) (r : Result (Unit {0}) Halt) (t : Slots) (on' : Bool) → reopenVerdict d s m ≡ Ok tt → read_by k d s true ≡ Ok f →
-    Ran s (sweepWrites s f.1) r t on' → Reopening k d s on m r t on'
-swept-by k d m s on f r t on' ok e (through q a o) = swept f ok e a q o
-swept-by k d m s on f r t on' ok e (failed n h q c o) = cut f n h ok e c q o
+swept_by : (k : Kit) (d m : ℕ) (s : Slots) (on : Bool) (f : Sound) (r : Result (Unit {0}) Halt) (t : Slots) (on' : Bool) → reopen_verdict d s m ≡ Ok tt → read_by k d s true ≡ Ok f →
+    Ran s (sweep_writes s f.1) r t on' → Reopening k d s on m r t on'
+swept_by k d m s on f r t on' ok e (through q a o) = swept f ok e a q o
+swept_by k d m s on f r t on' ok e (failed n h q c o) = cut f n h ok e c q o
 
-pub swept-from : (k : Kit) (d g w m n : ℕ) (s u : Slots) (on p : Bool) (x : Survey) (row : List ℕ) (r : Result (Unit {0}) Halt) (t : Slots) (on' : Bool) →
-    k.generator ≡ g → k.sealer ≡ w → u ≡ s → p ≡ true → reopenVerdict d s m ≡ Ok tt → n ≡ length s → length row ≡ m →
-    Ok x ≡ answer_of d None (reading_of d g w m u p) → row ≡ marksOf m (reading_of d g w m u p) →
-    ((xs : List Link) → row ≡ markedAll (zeros (length row)) xs → roomOf n ≤ length row → Ran u (sweepWrites u xs) r t on') →
+pub swept_from : (k : Kit) (d g w m n : ℕ) (s u : Slots) (on p : Bool) (x : Survey) (row : List ℕ) (r : Result (Unit {0}) Halt) (t : Slots) (on' : Bool) →
+    k.generator ≡ g → k.sealer ≡ w → u ≡ s → p ≡ true → reopen_verdict d s m ≡ Ok tt → n ≡ length s → length row ≡ m →
+    Ok x ≡ answer_of d None (reading_of d g w m u p) → row ≡ marks_of m (reading_of d g w m u p) →
+    ((xs : List Link) → row ≡ marked_all (zeros (length row)) xs → room_of n ≤ length row → Ran u (sweep_writes u xs) r t on') →
     Reopening k d s on m r t on'
-swept-from k d g w m n s u on p x row r t on' eg ew eu ep ok en el a b ran =
-    let i : reading_of d g w m u p ≡ judgedAs (fileOf d k.generator k.sealer s) = cc (reading-is d k.generator k.sealer m s ok) in
-    let y = swept_as d m (fileOf d k.generator k.sealer s) x row (a ∙ ap (answer_of d None) i) (b ∙ ap (marksOf m) i) in
-    let z : row ≡ markedAll (zeros (length row)) y.0.1 = y.2 ∙ ap (λ j. markedAll (zeros j) y.0.1) (sym el) in
-    let l : roomOf n ≤ length row = subst (λ j. roomOf j ≤ length row) (sym en) (subst (λ j. roomOf (length s) ≤ j) (sym el) (room_for d s m ok)) in
-    swept-by k d m s on y.0 r t on' ok y.1 (subst (λ v. Ran v (sweepWrites v y.0.1) r t on') eu (ran y.0.1 z l))
+swept_from k d g w m n s u on p x row r t on' eg ew eu ep ok en el a b ran =
+    let i : reading_of d g w m u p ≡ judged_as (file_of d k.generator k.sealer s) = cc (reading_is d k.generator k.sealer m s ok) in
+    let y = swept_as d m (file_of d k.generator k.sealer s) x row (a ∙ ap (answer_of d None) i) (b ∙ ap (marks_of m) i) in
+    let z : row ≡ marked_all (zeros (length row)) y.0.1 = y.2 ∙ ap (λ j. marked_all (zeros j) y.0.1) (sym el) in
+    let l : room_of n ≤ length row = subst (λ j. room_of j ≤ length row) (sym en) (subst (λ j. room_of (length s) ≤ j) (sym el) (room_for d s m ok)) in
+    swept_by k d m s on y.0 r t on' ok y.1 (subst (λ v. Ran v (sweep_writes v y.0.1) r t on') eu (ran y.0.1 z l))

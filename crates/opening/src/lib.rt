@@ -6,15 +6,15 @@
 
 ghost use Rattle.std.specs.Prelude.{◌≡◌, ℕ, ◌+◌, ◌<◌, ◌≤◌, Bool, true, List, [], length, replicate, slice_index_or};
 ghost use Rattle.octets.specs.Buffers.{zeros};
-ghost use Rattle.marks.specs.Rows.{roomOf, isMarked};
+ghost use Rattle.marks.specs.Rows.{room_of, is_marked};
 ghost use Rattle.chain.specs.Reading.{Link};
-ghost use Rattle.chain.specs.Listing.{markedAll};
-ghost use Rattle.tree.specs.Nodes.{treeLevels};
+ghost use Rattle.chain.specs.Listing.{marked_all};
+ghost use Rattle.tree.specs.Nodes.{tree_levels};
 ghost use Rattle.steps.specs.Writes.{Ran};
-ghost use Rattle.rules.specs.Files.{blankWrites, treeWrites, isBlank, sweepWrites};
-ghost use Rattle.rules.specs.Kits.{kitOf};
+ghost use Rattle.rules.specs.Files.{blank_writes, tree_writes, is_blank, sweep_writes};
+ghost use Rattle.rules.specs.Kits.{kit_of};
 ghost use Rattle.rules.specs.Calls.{Making, Reopening};
-ghost use Rattle.opening.specs.Sweeps.{sweepAt, Admitted};
+ghost use Rattle.opening.specs.Sweeps.{sweep_at, Admitted};
 
 use chain::read_marking;
 use device::{ReadSlots, WriteSlots};
@@ -32,7 +32,7 @@ use tree::LEVELS;
 // Zeros to every slot.
 fn blank_all<D: WriteSlots>(d: &mut D, count: u16) -> Result<(), Halt>
     requires { (length (D.ReadSlots.slots d.old) ≡ count) × (D.ReadSlots.powered d.old ≡ true) }
-    ensures { Ran (D.ReadSlots.slots d.old) (blankWrites 0 count) result (D.ReadSlots.slots d.new) (D.ReadSlots.powered d.new) }
+    ensures { Ran (D.ReadSlots.slots d.old) (blank_writes 0 count) result (D.ReadSlots.slots d.new) (D.ReadSlots.powered d.new) }
 {
     for i in 0..count {
         write_at(d, i, &[0; 64], Step::Make)?;
@@ -49,7 +49,7 @@ fn lay_tree<D: WriteSlots>(
     slot: &mut [u8; 64],
 ) -> Result<(), Halt>
     requires { (length (D.ReadSlots.slots d.old) ≡ count) × ((2 ≤ count) × (D.ReadSlots.powered d.old ≡ true)) }
-    ensures did { Ran (D.ReadSlots.slots d.old) (treeWrites treeLevels (D.ReadSlots.slots d.old) root.now head.now) result (D.ReadSlots.slots d.new) (D.ReadSlots.powered d.new) }
+    ensures did { Ran (D.ReadSlots.slots d.old) (tree_writes tree_levels (D.ReadSlots.slots d.old) root.now head.now) result (D.ReadSlots.slots d.new) (D.ReadSlots.powered d.new) }
     ensures clean { slot.new ≡ replicate 64 0 }
 {
     let guard = Wiped { pad: slot };
@@ -77,7 +77,7 @@ pub fn make_on<D: WriteSlots, G: Generator, S: Sealer>(
     name: &[u8; 16],
     slot: &mut [u8; 64],
 ) -> Result<(), Halt>
-    ensures did { (headed : Bool) × Making (kitOf (G.Generator.expansion g.now) (G.Generator.code g.now) (S.Sealer.sealing s.now) (S.Sealer.overhead s.now) (S.Sealer.number s.now)) treeLevels (D.ReadSlots.slots d.old) (D.ReadSlots.powered d.old) root.now name.now result (D.ReadSlots.slots d.new) (D.ReadSlots.powered d.new) headed }
+    ensures did { (headed : Bool) × Making (kit_of (G.Generator.expansion g.now) (G.Generator.code g.now) (S.Sealer.sealing s.now) (S.Sealer.overhead s.now) (S.Sealer.number s.now)) tree_levels (D.ReadSlots.slots d.old) (D.ReadSlots.powered d.old) root.now name.now result (D.ReadSlots.slots d.new) (D.ReadSlots.powered d.new) headed }
     ensures clean { slot.new ≡ replicate 64 0 }
 {
     let guard = Wiped { pad: slot };
@@ -95,7 +95,7 @@ pub fn make_on<D: WriteSlots, G: Generator, S: Sealer>(
 
 // Whether every byte is zero.
 fn is_blank(bytes: &[u8]) -> bool
-    ensures { result ≡ isBlank bytes.now }
+    ensures { result ≡ is_blank bytes.now }
 {
     for b in bytes {
         if *b != 0 {
@@ -113,7 +113,7 @@ fn sweep_slot<D: WriteSlots>(
     slot: &mut [u8; 64],
 ) -> Result<(), Halt>
     requires { (index < length (D.ReadSlots.slots d.old)) × (D.ReadSlots.powered d.old ≡ true) }
-    ensures { Ran (D.ReadSlots.slots d.old) (sweepAt (isMarked marks.now index) index (slice_index_or (D.ReadSlots.slots d.old) index [])) result (D.ReadSlots.slots d.new) (D.ReadSlots.powered d.new) }
+    ensures { Ran (D.ReadSlots.slots d.old) (sweep_at (is_marked marks.now index) index (slice_index_or (D.ReadSlots.slots d.old) index [])) result (D.ReadSlots.slots d.new) (D.ReadSlots.powered d.new) }
 {
     if is_marked(marks, index as usize) {
         return Ok(());
@@ -133,7 +133,7 @@ fn sweep<D: WriteSlots>(
     slot: &mut [u8; 64],
 ) -> Result<(), Halt>
     requires { (length (D.ReadSlots.slots d.old) ≡ count) × (D.ReadSlots.powered d.old ≡ true) }
-    ensures { (xs : List Link) → marks.now ≡ markedAll (zeros (length marks.now)) xs → roomOf count ≤ length marks.now → Ran (D.ReadSlots.slots d.old) (sweepWrites (D.ReadSlots.slots d.old) xs) result (D.ReadSlots.slots d.new) (D.ReadSlots.powered d.new) }
+    ensures { (xs : List Link) → marks.now ≡ marked_all (zeros (length marks.now)) xs → room_of count ≤ length marks.now → Ran (D.ReadSlots.slots d.old) (sweep_writes (D.ReadSlots.slots d.old) xs) result (D.ReadSlots.slots d.new) (D.ReadSlots.powered d.new) }
 {
     for i in 1..count {
         sweep_slot(d, i, marks, slot)?;
@@ -143,7 +143,7 @@ fn sweep<D: WriteSlots>(
 
 // The number of slots, where so many bytes of marks serve for it and a tree fits.
 fn admit<D: ReadSlots>(d: &D, marks: usize) -> Result<u16, Halt>
-    ensures { Admitted treeLevels (D.ReadSlots.slots d.now) marks result }
+    ensures { Admitted tree_levels (D.ReadSlots.slots d.now) marks result }
 {
     if marks < room(d.count()) {
         return Err(Halt::plain(Refusal::ShortBuffer));
@@ -159,7 +159,7 @@ fn restart_and_sweep<D: WriteSlots, G: Generator, S: Sealer>(
     marks: &mut [u8],
     slot: &mut [u8; 64],
 ) -> Result<(), Halt>
-    ensures { Reopening (kitOf (G.Generator.expansion g.now) (G.Generator.code g.now) (S.Sealer.sealing s.now) (S.Sealer.overhead s.now) (S.Sealer.number s.now)) treeLevels (D.ReadSlots.slots d.old) (D.ReadSlots.powered d.old) (length marks.old) result (D.ReadSlots.slots d.new) (D.ReadSlots.powered d.new) }
+    ensures { Reopening (kit_of (G.Generator.expansion g.now) (G.Generator.code g.now) (S.Sealer.sealing s.now) (S.Sealer.overhead s.now) (S.Sealer.number s.now)) tree_levels (D.ReadSlots.slots d.old) (D.ReadSlots.powered d.old) (length marks.old) result (D.ReadSlots.slots d.new) (D.ReadSlots.powered d.new) }
 {
     let count = admit(d, marks.len())?;
     restart(d)?;
@@ -176,7 +176,7 @@ pub fn reopen_on<D: WriteSlots, G: Generator, S: Sealer>(
     marks: &mut [u8],
     slot: &mut [u8; 64],
 ) -> Result<(), Halt>
-    ensures did { Reopening (kitOf (G.Generator.expansion g.now) (G.Generator.code g.now) (S.Sealer.sealing s.now) (S.Sealer.overhead s.now) (S.Sealer.number s.now)) treeLevels (D.ReadSlots.slots d.old) (D.ReadSlots.powered d.old) (length marks.old) result (D.ReadSlots.slots d.new) (D.ReadSlots.powered d.new) }
+    ensures did { Reopening (kit_of (G.Generator.expansion g.now) (G.Generator.code g.now) (S.Sealer.sealing s.now) (S.Sealer.overhead s.now) (S.Sealer.number s.now)) tree_levels (D.ReadSlots.slots d.old) (D.ReadSlots.powered d.old) (length marks.old) result (D.ReadSlots.slots d.new) (D.ReadSlots.powered d.new) }
     ensures marks { marks.new ≡ zeros (length marks.old) }
     ensures clean { slot.new ≡ replicate 64 0 }
 {

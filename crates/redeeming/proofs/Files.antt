@@ -3,12 +3,12 @@ use Rattle.std.proofs.Common.{◌≡◌, ℕ, zero, suc, ◌-◌, ◌^◌, ◌<�
 use Rattle.std.proofs.lemmas.Bool.{cases_Bool, and_parts, leb-true, ltb-true, eqb-true}
 use Rattle.device.specs.Effects.{Slots}
 use Rattle.layout.specs.declared.Head.{Head}
-use Rattle.layout.specs.Records.{part, allZero, isNode, isRecord, head_of, node_of, nodeFields}
+use Rattle.layout.specs.Records.{part, all_zero, is_node, is_record, head_of, node_of, node_fields}
 use Rattle.tree.specs.declared.Node.{Node}
-use Rattle.tree.specs.Nodes.{nodeAt, width_of, IsNode}
+use Rattle.tree.specs.Nodes.{node_at, width_of, IsNode}
 use Rattle.tree.specs.Cover.{In, Distinct}
-use Rattle.tree.proofs.Shapes.{node-from}
-use Rattle.chain.specs.Reading.{Link, Walk, Walk.broken, Walk.walked, File, File.badHead, File.uncovered, File.sound, end_of, mayFollow, consed, nodeIn, link_at, walk, lowestFrom, judged, headed, fileOf, slots_of}
+use Rattle.tree.proofs.Shapes.{node_from}
+use Rattle.chain.specs.Reading.{Link, Walk, Walk.broken, Walk.walked, File, File.bad_head, File.uncovered, File.sound, end_of, may_follow, consed, node_in, link_at, walk, lowest_from, judged, headed, file_of, slots_of}
 
 -- a record of the chain: in a slot of the device, read from there, a node of the tree that does not begin before `from`
 pub record Standing (d : ℕ) (s : Slots) (from : ℕ) (x : Link) : Type 0 where
@@ -27,23 +27,23 @@ slot_of j [] m = absurd m
 slot_of j (x ∷ xs) (inl q) = (x, inl refl, q)
 slot_of j (x ∷ xs) (inr m) = let r = slot_of j xs m in (r.0, inr r.1, r.2)
 
-tested-node : (d e p : ℕ) → isNode d e p ≡ true → IsNode d (nodeAt e p)
-tested-node d e p t =
+tested_node : (d e p : ℕ) → is_node d e p ≡ true → IsNode d (node_at e p)
+tested_node d e p t =
     let a = and_parts (leb e d) _ t in
     let b = and_parts (ltb p (2 ^ d)) _ a.1 in
-    node-from d (width_of d e) (nodeAt e p) (leb-true _ _ a.0) refl (eqb-true _ _ b.1) (ltb-true _ _ b.0)
+    node_from d (width_of d e) (node_at e p) (leb-true _ _ a.0) refl (eqb-true _ _ b.1) (ltb-true _ _ b.0)
 
-some-test : {A : Type 0} (b : Bool) (x : A) → is_some (cond b (Some x) None) ≡ true → b ≡ true
-some-test true x e = refl
-some-test false x e = e
+some_test : {A : Type 0} (b : Bool) (x : A) → is_some (cond b (Some x) None) ≡ true → b ≡ true
+some_test true x e = refl
+some_test false x e = e
 
-node-laid : (d : ℕ) (bs : List ℕ) → is_some (node_of d bs) ≡ true → IsNode d (nodeIn bs)
+node_laid : (d : ℕ) (bs : List ℕ) → is_some (node_of d bs) ≡ true → IsNode d (node_in bs)
 unfolding node_of
-node-laid d bs e =
-    let t = some-test (isRecord d bs) (nodeFields bs) e in
+node_laid d bs e =
+    let t = some_test (is_record d bs) (node_fields bs) e in
     let q = and_parts (eqb (get_or bs 0 0) 2) _ t in
-    let r = and_parts (allZero (part 6 26 bs)) _ q.1 in
-    tested-node d (get_or bs 1 0) (nodeFields bs).first r.1
+    let r = and_parts (all_zero (part 6 26 bs)) _ q.1 in
+    tested_node d (get_or bs 1 0) (node_fields bs).first r.1
 
 -- one record before a chain
 onto : (d : ℕ) (s : Slots) (from : ℕ) (x : Link) (ys : List Link) → Standing d s from x → Chained d s (end_of d x.node) ys → Chained d s from (x ∷ ys)
@@ -67,59 +67,59 @@ onto d s from x ys h c =
       );
     }
 
-consed-parts : (x : Link) (w : Walk) (xs : List Link) → consed x w ≡ walked xs → (ys : List Link) × (w ≡ walked ys) × (xs ≡ x ∷ ys)
-consed-parts x (broken i) xs e = let z : ◌≡◌ {A = ℕ} 0 1 = cc in absurd (omega arith)
-consed-parts x (walked ys) xs e = (ys, refl, cc)
+consed_parts : (x : Link) (w : Walk) (xs : List Link) → consed x w ≡ walked xs → (ys : List Link) × (w ≡ walked ys) × (xs ≡ x ∷ ys)
+consed_parts x (broken i) xs e = let z : ◌≡◌ {A = ℕ} 0 1 = cc in absurd (omega arith)
+consed_parts x (walked ys) xs e = (ys, refl, cc)
 
 none : (d : ℕ) (s : Slots) (from : ℕ) (xs : List Link) → walked [] ≡ walked xs → Chained d s from xs
 none d s from [] e = record { each = λ x m. absurd m; apart = tt }
 none d s from (x ∷ xs) e = let z : ◌≡◌ {A = ℕ} 0 1 = cc in absurd (omega arith)
 
-pub walk-chained : (d : ℕ) (s : Slots) (k from : ℕ) (b : Option Node) (last i : ℕ) (xs : List Link) → walk d k s from b last i ≡ walked xs → Chained d s from xs
+pub walk_chained : (d : ℕ) (s : Slots) (k from : ℕ) (b : Option Node) (last i : ℕ) (xs : List Link) → walk d k s from b last i ≡ walked xs → Chained d s from xs
 unfolding walk
-walk-chained d s k from b last zero xs e = none d s from xs e
-walk-chained d s zero from b last (suc i) xs e = let z : ◌≡◌ {A = ℕ} 0 1 = cc in absurd (omega arith)
-walk-chained d s (suc k) from b last (suc i) xs e = ⊎_elim
+walk_chained d s k from b last zero xs e = none d s from xs e
+walk_chained d s zero from b last (suc i) xs e = let z : ◌≡◌ {A = ℕ} 0 1 = cc in absurd (omega arith)
+walk_chained d s (suc k) from b last (suc i) xs e = ⊎_elim
     (λ (t : ltb (suc i) (length s) ≡ true). ⊎_elim
-    (λ (u : (is_some (node_of d (get_or s (suc i) [])) && mayFollow d from b (nodeIn (get_or s (suc i) []))) ≡ true).
-    let r = consed-parts (link_at s (suc i)) _ xs (rw (t, u) at e) in
+    (λ (u : (is_some (node_of d (get_or s (suc i) [])) && may_follow d from b (node_in (get_or s (suc i) []))) ≡ true).
+    let r = consed_parts (link_at s (suc i)) _ xs (rw (t, u) at e) in
     let a = and_parts (is_some (node_of d (get_or s (suc i) []))) _ u in
-    let o = and_parts (leb from (nodeIn (get_or s (suc i) [])).first) _ a.1 in
-    let c = walk-chained d s k (end_of d (nodeIn (get_or s (suc i) []))) (Some (nodeIn (get_or s (suc i) []))) (suc i) (nodeFields (get_or s (suc i) [])).next r.0 r.1 in
+    let o = and_parts (leb from (node_in (get_or s (suc i) [])).first) _ a.1 in
+    let c = walk_chained d s k (end_of d (node_in (get_or s (suc i) []))) (Some (node_in (get_or s (suc i) []))) (suc i) (node_fields (get_or s (suc i) [])).next r.0 r.1 in
     subst (Chained d s from) (sym r.2)
     (onto d s from (link_at s (suc i)) r.0
-    (record { above = omega arith; within = ltb-true _ _ t; link = refl; node = node-laid d (get_or s (suc i) []) a.0; after = leb-true _ _ o.0 }) c))
-    (λ (u : (is_some (node_of d (get_or s (suc i) [])) && mayFollow d from b (nodeIn (get_or s (suc i) []))) ≡ false).
+    (record { above = omega arith; within = ltb-true _ _ t; link = refl; node = node_laid d (get_or s (suc i) []) a.0; after = leb-true _ _ o.0 }) c))
+    (λ (u : (is_some (node_of d (get_or s (suc i) [])) && may_follow d from b (node_in (get_or s (suc i) []))) ≡ false).
     let f : broken (suc i) ≡ walked xs = rw (t, u) at e in
     let z : ◌≡◌ {A = ℕ} 0 1 = cc in absurd (omega arith))
-    (cases_Bool (is_some (node_of d (get_or s (suc i) [])) && mayFollow d from b (nodeIn (get_or s (suc i) [])))))
+    (cases_Bool (is_some (node_of d (get_or s (suc i) [])) && may_follow d from b (node_in (get_or s (suc i) [])))))
     (λ (t : ltb (suc i) (length s) ≡ false).
     let f : broken last ≡ walked xs = rw t at e in
     let z : ◌≡◌ {A = ℕ} 0 1 = cc in absurd (omega arith))
     (cases_Bool (ltb (suc i) (length s)))
 
-judged-test : (b : Bool) (m : ℕ) (h k : Head) (xs ys : List Link) → cond b (uncovered m) (sound k ys) ≡ sound h xs → (k ≡ h) × (ys ≡ xs)
-judged-test true m h k xs ys e = let z : ◌≡◌ {A = ℕ} 0 1 = cc in absurd (omega arith)
-judged-test false m h k xs ys e = (cc, cc)
+judged_test : (b : Bool) (m : ℕ) (h k : Head) (xs ys : List Link) → cond b (uncovered m) (sound k ys) ≡ sound h xs → (k ≡ h) × (ys ≡ xs)
+judged_test true m h k xs ys e = let z : ◌≡◌ {A = ℕ} 0 1 = cc in absurd (omega arith)
+judged_test false m h k xs ys e = (cc, cc)
 
-judged-sound : (d : ℕ) (k h : Head) (w : Walk) (xs : List Link) → judged d k w ≡ sound h xs → (k ≡ h) × (w ≡ walked xs)
-judged-sound d k h (broken i) xs e = let z : ◌≡◌ {A = ℕ} 0 1 = cc in absurd (omega arith)
-judged-sound d k h (walked ys) xs e =
-    let r = judged-test (ltb (lowestFrom d k.issued ys) (2 ^ d)) (lowestFrom d k.issued ys) h k xs ys e in
+judged_sound : (d : ℕ) (k h : Head) (w : Walk) (xs : List Link) → judged d k w ≡ sound h xs → (k ≡ h) × (w ≡ walked xs)
+judged_sound d k h (broken i) xs e = let z : ◌≡◌ {A = ℕ} 0 1 = cc in absurd (omega arith)
+judged_sound d k h (walked ys) xs e =
+    let r = judged_test (ltb (lowest_from d k.issued ys) (2 ^ d)) (lowest_from d k.issued ys) h k xs ys e in
     (r.0, ap walked r.1)
 
-named-sound : (b : Bool) (v : File) (h : Head) (xs : List Link) → cond b v badHead ≡ sound h xs → v ≡ sound h xs
-named-sound true v h xs e = e
-named-sound false v h xs e = let z : ◌≡◌ {A = ℕ} 0 1 = cc in absurd (omega arith)
+named_sound : (b : Bool) (v : File) (h : Head) (xs : List Link) → cond b v bad_head ≡ sound h xs → v ≡ sound h xs
+named_sound true v h xs e = e
+named_sound false v h xs e = let z : ◌≡◌ {A = ℕ} 0 1 = cc in absurd (omega arith)
 
-headed-sound : (d g w : ℕ) (s : Slots) (o : Option Head) (h : Head) (xs : List Link) → headed d g w s o ≡ sound h xs → Chained d s 0 xs
-headed-sound d g w s None h xs e = let z : ◌≡◌ {A = ℕ} 0 1 = cc in absurd (omega arith)
-headed-sound d g w s (Some k) h xs e =
-    let n = named-sound (eqb k.generator g && eqb k.sealer w) _ h xs e in
-    let j = judged-sound d k h (walk d (suc (2 ^ d)) s 0 None 0 k.first) xs n in
-    walk-chained d s (suc (2 ^ d)) 0 None 0 k.first xs j.1
+headed_sound : (d g w : ℕ) (s : Slots) (o : Option Head) (h : Head) (xs : List Link) → headed d g w s o ≡ sound h xs → Chained d s 0 xs
+headed_sound d g w s None h xs e = let z : ◌≡◌ {A = ℕ} 0 1 = cc in absurd (omega arith)
+headed_sound d g w s (Some k) h xs e =
+    let n = named_sound (eqb k.generator g && eqb k.sealer w) _ h xs e in
+    let j = judged_sound d k h (walk d (suc (2 ^ d)) s 0 None 0 k.first) xs n in
+    walk_chained d s (suc (2 ^ d)) 0 None 0 k.first xs j.1
 
 -- the chain of a sound file
-pub sound-chain : (d g w : ℕ) (s : Slots) (h : Head) (xs : List Link) → fileOf d g w s ≡ sound h xs → Chained d s 0 xs
-unfolding fileOf
-sound-chain d g w s h xs e = headed-sound d g w s (head_of d (get_or s 0 [])) h xs e
+pub sound_chain : (d g w : ℕ) (s : Slots) (h : Head) (xs : List Link) → file_of d g w s ≡ sound h xs → Chained d s 0 xs
+unfolding file_of
+sound_chain d g w s h xs e = headed_sound d g w s (head_of d (get_or s 0 [])) h xs e

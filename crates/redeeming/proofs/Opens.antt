@@ -4,35 +4,35 @@ use Rattle.std.proofs.lemmas.List.{take_at}
 use Rattle.octets.specs.Buffers.{zeros, filled}
 use Rattle.refusal.specs.declared.Refusal.TheVariants.{SealBroken, OpenedNotARecord}
 use Rattle.fault.specs.Faults.{placed}
-use Rattle.session.specs.Records.{isRecord}
+use Rattle.session.specs.Records.{is_record}
 use Rattle.sealer.specs.Outcomes.{PlainOf, Opened}
-use Rattle.redeeming.specs.Steps.{Unsealing, noPlain, noRecord, aRecord}
+use Rattle.redeeming.specs.Steps.{Unsealing, no_plain, no_record, a_record}
 
 -- f is what the sealer means at one key
 module _ (f : List ℕ → List ℕ → List ℕ) (h h' b b' : List ℕ) (n n' room : ℕ) (out : List ℕ) (eh : h ≡ h') (eb : b ≡ b') (en : n ≡ n') where
   moved : (plain : List ℕ) → PlainOf (f h) b plain → PlainOf (f h') b' plain
   moved plain p = record { short = p.short; seals = sym (ap (λ (z : List ℕ). f z plain) eh) ∙ p.seals ∙ eb }
 
-  pub opened-none : (v : Option ℕ) → v ≡ None → Opened (f h) b room (Ok v) out → Unsealing (f h') b' n' room (Err (placed SealBroken n)) out
-  opened-none v e o' =
+  pub opened_none : (v : Option ℕ) → v ≡ None → Opened (f h) b room (Ok v) out → Unsealing (f h') b' n' room (Err (placed SealBroken n)) out
+  opened_none v e o' =
       let o = subst (λ (u : Option ℕ). Opened (f h) b room (Ok u) out) e o' in
-      noPlain (λ plain p. o.1 plain (record { short = p.short; seals = ap (λ (z : List ℕ). f z plain) eh ∙ p.seals ∙ sym eb })) (ap (λ (z : ℕ). Err (placed SealBroken z)) en)
+      no_plain (λ plain p. o.1 plain (record { short = p.short; seals = ap (λ (z : List ℕ). f z plain) eh ∙ p.seals ∙ sym eb })) (ap (λ (z : ℕ). Err (placed SealBroken z)) en)
 
-  plain-is : (l : ℕ) (plain : List ℕ) → l ≡ length plain → out ≡ filled plain room → take (l - 0) out ≡ plain
-  plain-is l plain e q =
+  plain_is : (l : ℕ) (plain : List ℕ) → l ≡ length plain → out ≡ filled plain room → take (l - 0) out ≡ plain
+  plain_is l plain e q =
       let z : l - 0 ≡ l = omega arith in
       ap (λ (j : ℕ). take j out) z ∙ ap (take l) q ∙ take_at plain (zeros (room - length plain)) l (sym e)
 
-  pub opened-strange : (v : Option ℕ) (l : ℕ) → v ≡ Some l → Opened (f h) b room (Ok v) out → isRecord (take (l - 0) out) ≡ false → Unsealing (f h') b' n' room (Err (placed OpenedNotARecord n)) out
-  opened-strange v l e o' t =
+  pub opened_strange : (v : Option ℕ) (l : ℕ) → v ≡ Some l → Opened (f h) b room (Ok v) out → is_record (take (l - 0) out) ≡ false → Unsealing (f h') b' n' room (Err (placed OpenedNotARecord n)) out
+  opened_strange v l e o' t =
       let o = subst (λ (u : Option ℕ). Opened (f h) b room (Ok u) out) e o' in
       let plain = o.1.0 in
       let p = o.1.1 in
-      noRecord plain (moved plain p.0) (ap isRecord (sym (plain-is l plain p.1 p.2)) ∙ t) (ap (λ (z : ℕ). Err (placed OpenedNotARecord z)) en)
+      no_record plain (moved plain p.0) (ap is_record (sym (plain_is l plain p.1 p.2)) ∙ t) (ap (λ (z : ℕ). Err (placed OpenedNotARecord z)) en)
 
-  pub opened_some : (v : Option ℕ) (l : ℕ) → v ≡ Some l → Opened (f h) b room (Ok v) out → isRecord (take (l - 0) out) ≡ true → Unsealing (f h') b' n' room (Ok l) out
+  pub opened_some : (v : Option ℕ) (l : ℕ) → v ≡ Some l → Opened (f h) b room (Ok v) out → is_record (take (l - 0) out) ≡ true → Unsealing (f h') b' n' room (Ok l) out
   opened_some v l e o' t =
       let o = subst (λ (u : Option ℕ). Opened (f h) b room (Ok u) out) e o' in
       let plain = o.1.0 in
       let p = o.1.1 in
-      aRecord plain (moved plain p.0) (ap isRecord (sym (plain-is l plain p.1 p.2)) ∙ t) (ap Ok p.1) p.2
+      a_record plain (moved plain p.0) (ap is_record (sym (plain_is l plain p.1 p.2)) ∙ t) (ap Ok p.1) p.2

@@ -3,16 +3,16 @@ use Rattle.std.specs.Prelude.{◌≡◌, ℕ, zero, suc, ◌-◌, ◌*◌, ◌�
 use Rattle.device.specs.Effects.{Slots}
 use Rattle.fault.specs.declared.Halt.{Halt}
 use Rattle.tree.specs.declared.Node.{Node}
-use Rattle.tree.specs.Nodes.{rootNode}
+use Rattle.tree.specs.Nodes.{root_node}
 use Rattle.marks.specs.Rows.{unmarked}
 use Rattle.chain.specs.Reading.{Link}
-use Rattle.rules.specs.Kits.{valueLength}
+use Rattle.rules.specs.Kits.{value_length}
 use Rattle.steps.specs.Writes.{Ran}
-use Rattle.rules.specs.Files.{entry, newWrites}
+use Rattle.rules.specs.Files.{entry, new_writes}
 
 -- the slots without a mark, beside the head's, in increasing order
-abbrev pub openSlots : List ℕ → ℕ → List ℕ
-openSlots marks count = unmarked marks 1 (count - 1)
+abbrev pub open_slots : List ℕ → ℕ → List ℕ
+open_slots marks count = unmarked marks 1 (count - 1)
 
 -- the first n of a list, the last of them first
 abbrev pub backward : List ℕ → ℕ → List ℕ
@@ -21,24 +21,24 @@ backward us (suc n) = slice_index us n ∷ backward us n
 
 -- value j of a row
 abbrev pub value_at : List ℕ → ℕ → List ℕ
-value_at row j = take valueLength (drop (valueLength * j) row)
+value_at row j = take value_length (drop (value_length * j) row)
 
 -- the last n of m nodes with the values of a row, each in a slot of us: the last node in the first slot, and so on
-abbrev pub lastLinks : List ℕ → List Node → List ℕ → ℕ → ℕ → List Link
-lastLinks us nodes row m zero = []
-lastLinks us nodes row m (suc n) =
-    record { slot = slice_index us n; node = slice_index_or nodes (m - suc n) rootNode; value = value_at row (m - suc n) } ∷ lastLinks us nodes row m n
+abbrev pub last_links : List ℕ → List Node → List ℕ → ℕ → ℕ → List Link
+last_links us nodes row m zero = []
+last_links us nodes row m (suc n) =
+    record { slot = slice_index us n; node = slice_index_or nodes (m - suc n) root_node; value = value_at row (m - suc n) } ∷ last_links us nodes row m n
 
-abbrev pub linksFor : List ℕ → List Node → List ℕ → List Link
-linksFor us nodes row = lastLinks us nodes row (length nodes) (length nodes)
+abbrev pub links_for : List ℕ → List Node → List ℕ → List Link
+links_for us nodes row = last_links us nodes row (length nodes) (length nodes)
 
 -- the power is on, the device has that many slots, and m of them are open
 pub record Able (s : Slots) (on : Bool) (count m : ℕ) (marks : List ℕ) : Type 0 where
   pub power : on ≡ true
   pub size : length s ≡ count
-  pub room : m ≤ length (openSlots marks count)
+  pub room : m ≤ length (open_slots marks count)
 
 -- the links are written, the last leading on to the index `last`, and the answer is the index that leads to the first; or the power fails
 pub data Laid (s : Slots) (links : List Link) (last : ℕ) (r : Result ℕ Halt) (t : Slots) (on' : Bool) : Type 0 where
-  all : (i : ℕ) → r ≡ Ok i → i ≡ entry links last → Ran s (newWrites links last) (Ok tt) t on' → Laid s links last r t on'
-  cut : (h : Halt) → r ≡ Err h → Ran s (newWrites links last) (Err h) t on' → Laid s links last r t on'
+  all : (i : ℕ) → r ≡ Ok i → i ≡ entry links last → Ran s (new_writes links last) (Ok tt) t on' → Laid s links last r t on'
+  cut : (h : Halt) → r ≡ Err h → Ran s (new_writes links last) (Err h) t on' → Laid s links last r t on'

@@ -3,41 +3,41 @@ use Rattle.std.specs.Prelude.{◌≡◌, ℕ, ◌-◌, ◌*◌, ◌≤◌, Bool,
 use Rattle.octets.specs.Buffers.{zeros, filled}
 use Rattle.device.specs.Effects.{Slots}
 use Rattle.fault.specs.declared.Halt.{Halt}
-use Rattle.tree.specs.Nodes.{mostLevels, Covers}
-use Rattle.tree.specs.Values.{Expansion, siblingValues}
-use Rattle.marks.specs.Rows.{roomOf}
+use Rattle.tree.specs.Nodes.{most_levels, Covers}
+use Rattle.tree.specs.Values.{Expansion, sibling_values}
+use Rattle.marks.specs.Rows.{room_of}
 use Rattle.chain.specs.declared.Found.{Found}
-use Rattle.chain.specs.Reading.{Link, fileOf, sound}
-use Rattle.chain.specs.Listing.{between, markedAll}
-use Rattle.rules.specs.Kits.{Kit, valueLength}
+use Rattle.chain.specs.Reading.{Link, file_of, sound}
+use Rattle.chain.specs.Listing.{between, marked_all}
+use Rattle.rules.specs.Kits.{Kit, value_length}
 use Rattle.steps.specs.Writes.{Ran}
-use Rattle.rules.specs.Files.{lastSlot, redeemWrites, FreeSlots, freeCount}
-use Rattle.rules.specs.Calls.{Sound, newLinks}
+use Rattle.rules.specs.Files.{last_slot, redeem_writes, FreeSlots, free_count}
+use Rattle.rules.specs.Calls.{Sound, new_links}
 
 -- children's values are as long as their parent's
 pub record Lengthwise (e : Expansion) : Type 0 where
-  pub onLeft : (v : List ℕ) → length v ≡ valueLength → length (e.left v) ≡ valueLength
-  pub onRight : (v : List ℕ) → length v ≡ valueLength → length (e.right v) ≡ valueLength
+  pub on_left : (v : List ℕ) → length v ≡ value_length → length (e.left v) ≡ value_length
+  pub on_right : (v : List ℕ) → length v ≡ value_length → length (e.right v) ≡ value_length
 
 -- the file f stands in the slots; x, between front and back, is its record over n, and was found; the row holds the values of the
 -- siblings on the way down to n; just the chain's slots are marked; and there are free slots for the siblings
 pub record Given (k : Kit) (d : ℕ) (s : Slots) (on : Bool) (count : ℕ) (found : Found) (n : ℕ) (row marks : List ℕ) (f : Sound) (front : List Link) (x : Link) (back : List Link) : Type 0 where
   pub power : on ≡ true
   pub size : length s ≡ count
-  pub file : fileOf d k.generator k.sealer s ≡ sound f.0 f.1
+  pub file : file_of d k.generator k.sealer s ≡ sound f.0 f.1
   pub chain : f.1 ≡ front ++ (x ∷ back)
-  pub finds : found ≡ between (lastSlot 0 front) x back
+  pub finds : found ≡ between (last_slot 0 front) x back
   pub covers : Covers d x.node n
-  pub valued : length x.value ≡ valueLength
+  pub valued : length x.value ≡ value_length
   pub long : Lengthwise k.expansion
-  pub kept : row ≡ filled (siblingValues k.expansion d x.node x.value n) (mostLevels * valueLength)
-  pub wide : roomOf count ≤ length marks
-  pub marked : marks ≡ markedAll (zeros (length marks)) f.1
-  pub room : d - x.node.depth ≤ freeCount s f.1
+  pub kept : row ≡ filled (sibling_values k.expansion d x.node x.value n) (most_levels * value_length)
+  pub wide : room_of count ≤ length marks
+  pub marked : marks ≡ marked_all (zeros (length marks)) f.1
+  pub room : d - x.node.depth ≤ free_count s f.1
 
 -- siblings take the place of x: the writes of a redemption, with some free slots for the siblings
 pub record Puncturing (k : Kit) (d : ℕ) (s : Slots) (f : Sound) (front : List Link) (x : Link) (back : List Link) (n : ℕ) (r : Result (Unit {0}) Halt) (t : Slots) (on' : Bool) : Type 0 where
   pub taken : List ℕ
   pub free : FreeSlots s f.1 taken
   pub many : length taken ≡ d - x.node.depth
-  pub ran : Ran s (redeemWrites s front x back (newLinks k d x n taken)) r t on'
+  pub ran : Ran s (redeem_writes s front x back (new_links k d x n taken)) r t on'

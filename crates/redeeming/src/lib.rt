@@ -8,16 +8,16 @@
 
 ghost use Rattle.std.specs.Prelude.{◌≡◌, ◌<◌, ◌≤◌, Bool, List, length, Ok};
 ghost use Rattle.octets.specs.Buffers.{zeros};
-ghost use Rattle.session.specs.Limits.{mostLength};
+ghost use Rattle.session.specs.Limits.{most_length};
 ghost use Rattle.layout.specs.Records.{value_of};
-ghost use Rattle.tree.specs.Nodes.{treeLevels};
-ghost use Rattle.marks.specs.Rows.{roomOf};
+ghost use Rattle.tree.specs.Nodes.{tree_levels};
+ghost use Rattle.marks.specs.Rows.{room_of};
 ghost use Rattle.chain.specs.Reading.{Link};
 ghost use Rattle.scratch.specs.Clean.{Clean};
-ghost use Rattle.rules.specs.Kits.{Kit, kitOf, nameLength, headingLength, overheadMost, valueLength};
-ghost use Rattle.rules.specs.Tickets.{nameIn, number_in, headingIn, sealedIn};
-ghost use Rattle.rules.specs.Calls.{Sound, sameBytes, redeemable, Redeeming, kept};
-ghost use Rattle.redeeming.specs.Steps.{roomy, ticketFits, Entering, passing, Surveying, Met, Derived, Unsealing, Spotted};
+ghost use Rattle.rules.specs.Kits.{Kit, kit_of, name_length, heading_length, overhead_most, value_length};
+ghost use Rattle.rules.specs.Tickets.{name_in, number_in, heading_in, sealed_in};
+ghost use Rattle.rules.specs.Calls.{Sound, same_bytes, redeemable, Redeeming, kept};
+ghost use Rattle.redeeming.specs.Steps.{roomy, ticket_fits, Entering, passing, Surveying, Met, Derived, Unsealing, Spotted};
 
 mod puncturing;
 
@@ -46,7 +46,7 @@ fn is_roomy<D: ReadSlots>(d: &D, state: usize, marks: usize) -> bool
 
 // The slot count, once buffers and count will do.
 fn enter<D: ReadSlots>(d: &D, state: usize, marks: usize) -> Result<u16, Halt>
-    ensures { Entering treeLevels (D.ReadSlots.slots d.now) state marks result }
+    ensures { Entering tree_levels (D.ReadSlots.slots d.now) state marks result }
 {
     if !is_roomy(d, state, marks) {
         return Err(Halt::plain(Refusal::ShortBuffer));
@@ -56,23 +56,23 @@ fn enter<D: ReadSlots>(d: &D, state: usize, marks: usize) -> Result<u16, Halt>
 
 // Whether a ticket of so many bytes can be one of a sealer with this overhead.
 fn ticket_fits(overhead: usize, length: usize) -> bool
-    requires { overhead ≤ overheadMost }
-    ensures { result ≡ ticketFits overhead length }
+    requires { overhead ≤ overhead_most }
+    ensures { result ≡ ticket_fits overhead length }
 {
     HEADING + RECORD_LEAST + overhead <= length && length <= HEADING + RECORD_LIMIT + overhead
 }
 
 // Whether a ticket bears a name.
 fn bears(ticket: &[u8], name: &[u8; 16]) -> bool
-    requires { nameLength ≤ length ticket.now }
-    ensures { result ≡ sameBytes (nameIn ticket.now) name.now }
+    requires { name_length ≤ length ticket.now }
+    ensures { result ≡ same_bytes (name_in ticket.now) name.now }
 {
     same_bytes(&ticket[0..NAME], name)
 }
 
 // The number in a ticket's heading; 0 where the ticket is too short for one.
 fn number_in(ticket: &[u8]) -> u32
-    ensures { headingLength ≤ length ticket.now → result ≡ number_in ticket.now }
+    ensures { heading_length ≤ length ticket.now → result ≡ number_in ticket.now }
 {
     if ticket.len() < HEADING {
         return 0;
@@ -82,7 +82,7 @@ fn number_in(ticket: &[u8]) -> u32
 
 // Checks a ticket's length, name and number against the head.
 fn check_ticket(ticket: &[u8], head: &Head, overhead: usize) -> Result<(), Halt>
-    requires { overhead ≤ overheadMost }
+    requires { overhead ≤ overhead_most }
     ensures { (k : Kit) (f : Sound) → k.overhead ≡ overhead → f.0 ≡ head.now → redeemable k ticket.now (Ok f) ≡ passing result f }
 {
     if !ticket_fits(overhead, ticket.len()) {
@@ -108,8 +108,8 @@ fn admit<D: ReadSlots>(
     marks: &mut [u8],
     slot: &mut [u8; 64],
 ) -> Result<Survey, Halt>
-    requires { overhead ≤ overheadMost }
-    ensures { (k : Kit) → k.generator ≡ generator → k.sealer ≡ sealer → k.overhead ≡ overhead → 0 < length (D.ReadSlots.slots d.now) → roomOf (length (D.ReadSlots.slots d.now)) ≤ length marks.old → Surveying k treeLevels (D.ReadSlots.slots d.now) (D.ReadSlots.powered d.now) ticket.now (length marks.old) result marks.new }
+    requires { overhead ≤ overhead_most }
+    ensures { (k : Kit) → k.generator ≡ generator → k.sealer ≡ sealer → k.overhead ≡ overhead → 0 < length (D.ReadSlots.slots d.now) → room_of (length (D.ReadSlots.slots d.now)) ≤ length marks.old → Surveying k tree_levels (D.ReadSlots.slots d.now) (D.ReadSlots.powered d.now) ticket.now (length marks.old) result marks.new }
 {
     let survey = read_marking(d, generator, sealer, Some(number_in(ticket)), marks, slot)?;
     check_ticket(ticket, &survey.head, overhead)?;
@@ -119,7 +119,7 @@ fn admit<D: ReadSlots>(
 // The value in a record.
 fn copy_value(slot: &[u8; 64], value: &mut [u8; 32])
     ensures is { value.new ≡ value_of slot.now }
-    ensures long { length (value_of slot.now) ≡ valueLength }
+    ensures long { length (value_of slot.now) ≡ value_length }
 {
     value.copy_from_slice(&slot[32..64]);
 }
@@ -132,7 +132,7 @@ fn derive_key<D: ReadSlots, G: Generator>(
     n: u32,
     scratch: &mut Scratch,
 ) -> Result<u32, Halt>
-    ensures { (x : Link) → Met treeLevels (D.ReadSlots.slots d.now) (D.ReadSlots.powered d.now) found.now n x → Derived (G.Generator.expansion g.now) treeLevels n x result scratch.new.key scratch.new.row }
+    ensures { (x : Link) → Met tree_levels (D.ReadSlots.slots d.now) (D.ReadSlots.powered d.now) found.now n x → Derived (G.Generator.expansion g.now) tree_levels n x result scratch.new.key scratch.new.row }
 {
     let Scratch {
         slot,
@@ -158,8 +158,8 @@ fn open_ticket<S: Sealer>(
     state: &mut [u8],
     pad: &mut [u8; 64],
 ) -> Result<usize, Halt>
-    requires { headingLength ≤ length ticket.now }
-    ensures { mostLength ≤ length state.old → Unsealing (S.Sealer.sealing s.now key.now (headingIn ticket.now)) (sealedIn ticket.now) (number_in ticket.now) (length state.old) result state.new }
+    requires { heading_length ≤ length ticket.now }
+    ensures { most_length ≤ length state.old → Unsealing (S.Sealer.sealing s.now key.now (heading_in ticket.now)) (sealed_in ticket.now) (number_in ticket.now) (length state.old) result state.new }
 {
     let number = get_u32(ticket, NAME);
     let mut heading = [0; HEADING];
@@ -191,8 +191,8 @@ fn spend<D: WriteSlots, G: Generator, S: Sealer>(
     marks: &[u8],
     scratch: &mut Scratch,
 ) -> Result<(usize, u32), Halt>
-    requires { headingLength ≤ length ticket.now }
-    ensures { (f : Sound) (front : List Link) (x : Link) (back : List Link) → Spotted (kitOf (G.Generator.expansion g.now) (G.Generator.code g.now) (S.Sealer.sealing s.now) (S.Sealer.overhead s.now) (S.Sealer.number s.now)) treeLevels (D.ReadSlots.slots d.old) (D.ReadSlots.powered d.old) ticket.now (length state.old) count records found.now marks.now f front x back → (joined : Bool) × Redeeming (kitOf (G.Generator.expansion g.now) (G.Generator.code g.now) (S.Sealer.sealing s.now) (S.Sealer.overhead s.now) (S.Sealer.number s.now)) treeLevels (D.ReadSlots.slots d.old) (D.ReadSlots.powered d.old) ticket.now (length state.old) (length marks.now) result (kept result (length state.old) state.new) (D.ReadSlots.slots d.new) (D.ReadSlots.powered d.new) joined }
+    requires { heading_length ≤ length ticket.now }
+    ensures { (f : Sound) (front : List Link) (x : Link) (back : List Link) → Spotted (kit_of (G.Generator.expansion g.now) (G.Generator.code g.now) (S.Sealer.sealing s.now) (S.Sealer.overhead s.now) (S.Sealer.number s.now)) tree_levels (D.ReadSlots.slots d.old) (D.ReadSlots.powered d.old) ticket.now (length state.old) count records found.now marks.now f front x back → (joined : Bool) × Redeeming (kit_of (G.Generator.expansion g.now) (G.Generator.code g.now) (S.Sealer.sealing s.now) (S.Sealer.overhead s.now) (S.Sealer.number s.now)) tree_levels (D.ReadSlots.slots d.old) (D.ReadSlots.powered d.old) ticket.now (length state.old) (length marks.now) result (kept result (length state.old) state.new) (D.ReadSlots.slots d.new) (D.ReadSlots.powered d.new) joined }
 {
     let number = get_u32(ticket, NAME);
     let calls = derive_key(d, g, found, number, scratch)?;
@@ -222,7 +222,7 @@ fn redeem_in<D: WriteSlots, G: Generator, S: Sealer>(
     marks: &mut [u8],
     scratch: &mut Scratch,
 ) -> Result<(usize, u32), Halt>
-    ensures { (joined : Bool) × Redeeming (kitOf (G.Generator.expansion g.now) (G.Generator.code g.now) (S.Sealer.sealing s.now) (S.Sealer.overhead s.now) (S.Sealer.number s.now)) treeLevels (D.ReadSlots.slots d.old) (D.ReadSlots.powered d.old) ticket.now (length state.old) (length marks.old) result (kept result (length state.old) state.new) (D.ReadSlots.slots d.new) (D.ReadSlots.powered d.new) joined }
+    ensures { (joined : Bool) × Redeeming (kit_of (G.Generator.expansion g.now) (G.Generator.code g.now) (S.Sealer.sealing s.now) (S.Sealer.overhead s.now) (S.Sealer.number s.now)) tree_levels (D.ReadSlots.slots d.old) (D.ReadSlots.powered d.old) ticket.now (length state.old) (length marks.old) result (kept result (length state.old) state.new) (D.ReadSlots.slots d.new) (D.ReadSlots.powered d.new) joined }
 {
     let count = enter(d, state.len(), marks.len())?;
     let survey = admit(
@@ -263,7 +263,7 @@ pub fn redeem_on<D: WriteSlots, G: Generator, S: Sealer>(
     marks: &mut [u8],
     scratch: &mut Scratch,
 ) -> Result<(usize, u32), Halt>
-    ensures did { (joined : Bool) × Redeeming (kitOf (G.Generator.expansion g.now) (G.Generator.code g.now) (S.Sealer.sealing s.now) (S.Sealer.overhead s.now) (S.Sealer.number s.now)) treeLevels (D.ReadSlots.slots d.old) (D.ReadSlots.powered d.old) ticket.now (length state.old) (length marks.old) result state.new (D.ReadSlots.slots d.new) (D.ReadSlots.powered d.new) joined }
+    ensures did { (joined : Bool) × Redeeming (kit_of (G.Generator.expansion g.now) (G.Generator.code g.now) (S.Sealer.sealing s.now) (S.Sealer.overhead s.now) (S.Sealer.number s.now)) tree_levels (D.ReadSlots.slots d.old) (D.ReadSlots.powered d.old) ticket.now (length state.old) (length marks.old) result state.new (D.ReadSlots.slots d.new) (D.ReadSlots.powered d.new) joined }
     ensures marks { marks.new ≡ zeros (length marks.old) }
     ensures clean { Clean scratch.new }
 {

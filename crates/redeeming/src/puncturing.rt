@@ -2,15 +2,15 @@
 //!
 //! New records go to free slots first; the join, one write, brings them in and takes the old record off; then its slot is zeroed.
 ghost use Rattle.std.specs.Prelude.{◌≡◌, ℕ, ◌^◌, ◌<◌, ◌≤◌, true, List, [], length, get_or, replicate, slice_index_or};
-ghost use Rattle.tree.specs.Nodes.{treeLevels, mostLevels, rootNode};
-ghost use Rattle.layout.specs.Records.{encodeNode};
+ghost use Rattle.tree.specs.Nodes.{tree_levels, most_levels, root_node};
+ghost use Rattle.layout.specs.Records.{encode_node};
 ghost use Rattle.fault.specs.declared.Step.TheVariants.{Join as JoinStep};
 ghost use Rattle.chain.specs.Reading.{Link};
 ghost use Rattle.rules.specs.Kits.{Kit};
-ghost use Rattle.steps.specs.OneStep.{writeOf, Stepped};
+ghost use Rattle.steps.specs.OneStep.{write_of, Stepped};
 ghost use Rattle.rules.specs.Files.{relinked};
 ghost use Rattle.rules.specs.Calls.{Sound};
-ghost use Rattle.redeeming.specs.Laying.{openSlots, value_at, linksFor, Able, Laid};
+ghost use Rattle.redeeming.specs.Laying.{open_slots, value_at, links_for, Able, Laid};
 ghost use Rattle.redeeming.specs.Puncturing.{Given, Puncturing};
 
 use chain::Found;
@@ -25,8 +25,8 @@ use tree::{LEVELS, Node, ROW};
 
 // Lays out the record of a node with value `k` of the row.
 fn lay_record(node: &Node, row: &[u8; 768], k: usize, next: u16, slot: &mut [u8; 64])
-    requires { (k < mostLevels) × (node.now.first < 2 ^ 16) }
-    ensures { slot.new ≡ encodeNode (record { depth = node.now.depth; first = node.now.first; next = next }) (value_at row.now k) }
+    requires { (k < most_levels) × (node.now.first < 2 ^ 16) }
+    ensures { slot.new ≡ encode_node (record { depth = node.now.depth; first = node.now.first; next = next }) (value_at row.now k) }
 {
     encode_node(
         &NodeFields {
@@ -51,8 +51,8 @@ fn write_records<D: WriteSlots>(
     last: u16,
     slot: &mut [u8; 64],
 ) -> Result<u16, Halt>
-    requires { (length nodes.now ≤ mostLevels) × (((j : ℕ) → j < length nodes.now → (get_or nodes.now j rootNode).first < 2 ^ 16)) }
-    ensures { Able (D.ReadSlots.slots d.old) (D.ReadSlots.powered d.old) count (length nodes.now) marks.now → Laid (D.ReadSlots.slots d.old) (linksFor (openSlots marks.now count) nodes.now row.now) last result (D.ReadSlots.slots d.new) (D.ReadSlots.powered d.new) }
+    requires { (length nodes.now ≤ most_levels) × (((j : ℕ) → j < length nodes.now → (get_or nodes.now j root_node).first < 2 ^ 16)) }
+    ensures { Able (D.ReadSlots.slots d.old) (D.ReadSlots.powered d.old) count (length nodes.now) marks.now → Laid (D.ReadSlots.slots d.old) (links_for (open_slots marks.now count) nodes.now row.now) last result (D.ReadSlots.slots d.new) (D.ReadSlots.powered d.new) }
 {
     let mut next = last;
     let mut from = 1;
@@ -72,7 +72,7 @@ fn write_records<D: WriteSlots>(
 
 // Lets a record, or the head, lead on to another index.
 fn join<D: WriteSlots>(d: &mut D, before: u16, first: u16, slot: &mut [u8; 64]) -> Result<(), Halt>
-    ensures { before < length (D.ReadSlots.slots d.old) → D.ReadSlots.powered d.old ≡ true → Stepped (D.ReadSlots.slots d.old) (D.ReadSlots.powered d.old) (writeOf before (relinked first (slice_index_or (D.ReadSlots.slots d.old) before [])) JoinStep) result (D.ReadSlots.slots d.new) (D.ReadSlots.powered d.new) }
+    ensures { before < length (D.ReadSlots.slots d.old) → D.ReadSlots.powered d.old ≡ true → Stepped (D.ReadSlots.slots d.old) (D.ReadSlots.powered d.old) (write_of before (relinked first (slice_index_or (D.ReadSlots.slots d.old) before [])) JoinStep) result (D.ReadSlots.slots d.new) (D.ReadSlots.powered d.new) }
 {
     read_at(d, before, slot)?;
     put_u16(slot, 4, first);
@@ -91,7 +91,7 @@ pub(super) fn puncture<D: WriteSlots>(
     marks: &[u8],
     slot: &mut [u8; 64],
 ) -> Result<(), Halt>
-    ensures did { (k : Kit) (f : Sound) (front : List Link) (x : Link) (back : List Link) → Given k treeLevels (D.ReadSlots.slots d.old) (D.ReadSlots.powered d.old) count found.now n row.now marks.now f front x back → Puncturing k treeLevels (D.ReadSlots.slots d.old) f front x back n result (D.ReadSlots.slots d.new) (D.ReadSlots.powered d.new) }
+    ensures did { (k : Kit) (f : Sound) (front : List Link) (x : Link) (back : List Link) → Given k tree_levels (D.ReadSlots.slots d.old) (D.ReadSlots.powered d.old) count found.now n row.now marks.now f front x back → Puncturing k tree_levels (D.ReadSlots.slots d.old) f front x back n result (D.ReadSlots.slots d.new) (D.ReadSlots.powered d.new) }
     ensures clean { slot.new ≡ replicate 64 0 }
 {
     let guard = Wiped { pad: slot };

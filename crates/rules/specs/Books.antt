@@ -21,8 +21,8 @@ pub record Book : Type 0 where
   pub opened : List ℕ
 
 -- nothing issued, nothing spent
-abbrev pub freshBook : Book
-freshBook = record { issued = 0; spent = []; given = []; opened = [] }
+abbrev pub fresh_book : Book
+fresh_book = record { issued = 0; spent = []; given = []; opened = [] }
 
 -- a call as the book is fed with it: its arguments, its answer with the buffer that it filled, and whether the write that counts stands
 pub data Deed : Type 0 where
@@ -40,13 +40,13 @@ noted true n ns = n ∷ ns
 noted false n ns = ns
 
 -- the tickets once an issue is answered: one that it handed out is noted, and its state is the plain that was to be sealed
-abbrev pub withTicket : Outcome → ℕ → List ℕ → List ℕ → List Given → List Given
-withTicket (Ok a) n buffer plain gs = record { number = n; ticket = take a.0 buffer; state = plain } ∷ gs
-withTicket (Err h) n buffer plain gs = gs
+abbrev pub with_ticket : Outcome → ℕ → List ℕ → List ℕ → List Given → List Given
+with_ticket (Ok a) n buffer plain gs = record { number = n; ticket = take a.0 buffer; state = plain } ∷ gs
+with_ticket (Err h) n buffer plain gs = gs
 
-abbrev pub withOpened : Outcome → ℕ → List ℕ → List ℕ
-withOpened (Ok a) n ns = n ∷ ns
-withOpened (Err h) n ns = ns
+abbrev pub with_opened : Outcome → ℕ → List ℕ → List ℕ
+with_opened (Ok a) n ns = n ∷ ns
+with_opened (Err h) n ns = ns
 
 -- The book after a call. Issuing counts one more number once the head's write stands; redeeming notes the number that its ticket names as
 -- spent once the join stands. A ticket handed out and a number opened are noted only where the call was not refused. The other calls
@@ -55,14 +55,14 @@ abbrev pub fed : Book → Deed → Book
 fed b (issue plain r ticket headed) = record {
   issued = raised headed b.issued;
   spent = b.spent;
-  given = withTicket r b.issued ticket plain b.given;
+  given = with_ticket r b.issued ticket plain b.given;
   opened = b.opened;
 }
 fed b (redeem ticket r joined) = record {
   issued = b.issued;
   spent = noted joined (number_in ticket) b.spent;
   given = b.given;
-  opened = withOpened r (number_in ticket) b.opened;
+  opened = with_opened r (number_in ticket) b.opened;
 }
 fed b close = b
 fed b (reopen r) = b

@@ -4,9 +4,9 @@ use Rattle.refusal.specs.declared.Refusal.{Refusal}
 use Rattle.refusal.specs.declared.Refusal.TheVariants.{NoPower}
 use Rattle.fault.specs.declared.Halt.{Halt}
 use Rattle.device.specs.Effects.{Slots}
-use Rattle.rules.specs.Kits.{Kit, valueLength, nameLength}
+use Rattle.rules.specs.Kits.{Kit, value_length, name_length}
 use Rattle.rules.specs.Calls.{Outcome, Making, Issuing, Redeeming, Reopening}
-use Rattle.rules.specs.Books.{Book, freshBook, issue, redeem, close, reopen, fed}
+use Rattle.rules.specs.Books.{Book, fresh_book, issue, redeem, close, reopen, fed}
 
 -- a server is running, or cold
 pub data Mode : Type 0 where
@@ -14,17 +14,17 @@ pub data Mode : Type 0 where
   cold : Mode
 
 -- whether a call halted for want of power
-abbrev pub isNoPower : Refusal → Bool
-isNoPower NoPower = true
-isNoPower w = false
+abbrev pub is_no_power : Refusal → Bool
+is_no_power NoPower = true
+is_no_power w = false
 
-abbrev pub wantsPower : Halt → Bool
-wantsPower h = isNoPower h.refusal
+abbrev pub wants_power : Halt → Bool
+wants_power h = is_no_power h.refusal
 
 -- issue and redeem hand back a running server, or a cold one after want of power
-abbrev pub modeAfter : Outcome → Mode
-modeAfter (Ok a) = running
-modeAfter (Err h) = cond (wantsPower h) cold running
+abbrev pub mode_after : Outcome → Mode
+mode_after (Ok a) = running
+mode_after (Err h) = cond (wants_power h) cold running
 
 -- make and reopen give a running server, or hand the cold one back
 abbrev pub mode_of : Result (Unit {0}) Halt → Mode
@@ -33,14 +33,14 @@ mode_of (Err h) = cold
 
 pub data Past (k : Kit) (d : ℕ) (root name : List ℕ) : Mode → Slots → Bool → Book → Type 0 where
   made : (s : Slots) (on : Bool) (r : Result (Unit {0}) Halt) (t : Slots) (on' : Bool) →
-      length root ≡ valueLength → length name ≡ nameLength → Making k d s on root name r t on' true →
-      Past k d root name (mode_of r) t on' freshBook
+      length root ≡ value_length → length name ≡ name_length → Making k d s on root name r t on' true →
+      Past k d root name (mode_of r) t on' fresh_book
   issued : (s : Slots) (on : Bool) (b : Book) (plain : List ℕ) (room marks : ℕ) (r : Outcome) (ticket : List ℕ) (t : Slots) (on' headed : Bool) →
       Past k d root name running s on b → Issuing k d s on plain room marks r ticket t on' headed →
-      Past k d root name (modeAfter r) t on' (fed b (issue plain r ticket headed))
+      Past k d root name (mode_after r) t on' (fed b (issue plain r ticket headed))
   redeemed : (s : Slots) (on : Bool) (b : Book) (ticket : List ℕ) (room marks : ℕ) (r : Outcome) (state : List ℕ) (t : Slots) (on' joined : Bool) →
       Past k d root name running s on b → Redeeming k d s on ticket room marks r state t on' joined →
-      Past k d root name (modeAfter r) t on' (fed b (redeem ticket r joined))
+      Past k d root name (mode_after r) t on' (fed b (redeem ticket r joined))
   closed : (s : Slots) (on : Bool) (b : Book) → Past k d root name running s on b → Past k d root name cold s on (fed b close)
   reopened : (s : Slots) (on : Bool) (b : Book) (marks : ℕ) (r : Result (Unit {0}) Halt) (t : Slots) (on' : Bool) →
       Past k d root name cold s on b → Reopening k d s on marks r t on' → Past k d root name (mode_of r) t on' (fed b (reopen r))

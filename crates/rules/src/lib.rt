@@ -2,9 +2,9 @@
 #![tactic(auto)]
 
 ghost use Rattle.std.specs.Prelude.{◌≡◌, ℕ, ◌<◌, length};
-ghost use Rattle.tree.specs.Nodes.{treeLevels};
-ghost use Rattle.rules.specs.Kits.{nameLength, headingLength};
-ghost use Rattle.rules.specs.Calls.{slotsLeast, slotsMost, Fitting};
+ghost use Rattle.tree.specs.Nodes.{tree_levels};
+ghost use Rattle.rules.specs.Kits.{name_length, heading_length};
+ghost use Rattle.rules.specs.Calls.{slots_least, slots_most, Fitting};
 
 use device::ReadSlots;
 use fault::Halt;
@@ -25,17 +25,17 @@ pub const SLOTS_MOST: usize = 1024;
 
 /// The lengths of a ticket's parts, and the slots that a device may have.
 pub fn limits_stand() -> u8
-    ensures name { NAME ≡ nameLength }
-    ensures heading { HEADING ≡ headingLength }
-    ensures least { SLOTS_LEAST ≡ slotsLeast treeLevels }
-    ensures most { SLOTS_MOST ≡ slotsMost }
+    ensures name { NAME ≡ name_length }
+    ensures heading { HEADING ≡ heading_length }
+    ensures least { SLOTS_LEAST ≡ slots_least tree_levels }
+    ensures most { SLOTS_MOST ≡ slots_most }
 {
     0
 }
 
 /// The number of slots, where a tree fits a device of so many.
 pub fn slot_count<D: ReadSlots>(d: &D) -> Result<u16, Halt>
-    ensures { Fitting treeLevels (D.ReadSlots.slots d.now) result }
+    ensures { Fitting tree_levels (D.ReadSlots.slots d.now) result }
 {
     let count = d.count();
     if count < SLOTS_LEAST || count > SLOTS_MOST {

@@ -2,7 +2,7 @@
 #![tactic(auto)]
 
 ghost use Rattle.std.specs.Prelude.{◌≡◌, ◌↔◌, ◌≤◌, length, take, All, IsTrue, IsOk, Ok, ◌⊎◌};
-ghost use Rattle.session.specs.Records.{Fits, decodeOf};
+ghost use Rattle.session.specs.Records.{Fits, decode_of};
 
 use anyhow::anyhow;
 use session::{NAME_LIMIT, SECRET_LENGTH, SessionState, Suite};
@@ -127,7 +127,7 @@ pub fn session(name: &[u8], mark: u8) -> SessionState
 
 /// The record of a session; no bytes where its fields make none.
 pub fn record_of(state: &SessionState) -> Bytes
-    ensures { (result.length ≡ 0) ⊎ (decodeOf (take result.length result.row) ≡ Ok state.now) }
+    ensures { (result.length ≡ 0) ⊎ (decode_of (take result.length result.row) ≡ Ok state.now) }
 {
     let mut row = [0; ROOM];
     match state.write(&mut row) {

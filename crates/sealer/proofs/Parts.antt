@@ -3,9 +3,9 @@ use Rattle.std.proofs.Common.{◌≡◌, ℕ, List, [], ◌++◌, length, drop, 
 use Rattle.std.proofs.Math.Seq.{paste}
 use Rattle.std.proofs.lemmas.List.{drop_all, append-nil}
 use Rattle.octets.specs.Fields.{bytes_of}
-use Rattle.octets.proofs.Fielded.{paste-at, length-bytes}
+use Rattle.octets.proofs.Fielded.{paste_at, length_bytes}
 
 pub number_after_name : (name rest : List ℕ) (n : ℕ) → length name ≡ 16 → length rest ≡ 4 → paste (name ++ rest) 16 (bytes_of 4 n) 4 ≡ name ++ bytes_of 4 n
 number_after_name name rest n long four =
     let none : drop 4 rest ≡ [] = drop_all 4 rest (omega (arith, four)) in
-    paste-at name rest (bytes_of 4 n) 16 4 long (length-bytes 4 n) ∙ rw (none, append-nil)
+    paste_at name rest (bytes_of 4 n) 16 4 long (length_bytes 4 n) ∙ rw (none, append-nil)

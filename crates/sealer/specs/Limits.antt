@@ -1,11 +1,11 @@
 -- How long a plain and a sealing may be.
 use Rattle.std.specs.Prelude.{ℕ}
-use Rattle.session.specs.Limits.{mostLength}
+use Rattle.session.specs.Limits.{most_length}
 
 -- the bytes of the longest plain: those of the longest session record
-abbrev pub plainLimit : ℕ
-plainLimit = mostLength
+abbrev pub plain_limit : ℕ
+plain_limit = most_length
 
 -- the most bytes that a sealing has beyond its plain
-abbrev pub overheadLimit : ℕ
-overheadLimit = 32
+abbrev pub overhead_limit : ℕ
+overhead_limit = 32

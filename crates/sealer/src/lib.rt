@@ -6,8 +6,8 @@
 
 ghost use Rattle.std.specs.Prelude.{◌≡◌, ℕ, ◌+◌, ◌<◌, ◌≤◌, List, length};
 ghost use Rattle.octets.specs.Buffers.{zeros};
-ghost use Rattle.sealer.specs.Limits.{plainLimit, overheadLimit};
-ghost use Rattle.sealer.specs.Headings.{headingOf};
+ghost use Rattle.sealer.specs.Limits.{plain_limit, overhead_limit};
+ghost use Rattle.sealer.specs.Headings.{heading_of};
 ghost use Rattle.sealer.specs.Outcomes.{Sealed, Opened};
 
 use octets::put_u32;
@@ -65,23 +65,23 @@ pub trait Sealer {
 
     ghost one_byte: { (s : Self) → number s < 256 };
 
-    ghost limited: { (s : Self) → overhead s ≤ overheadLimit };
+    ghost limited: { (s : Self) → overhead s ≤ overhead_limit };
 
-    ghost long: { (s : Self) (key heading plain : List ℕ) → length key ≡ 32 → length heading ≡ 20 → length plain ≤ plainLimit → length (sealing s key heading plain) ≡ length plain + overhead s };
+    ghost long: { (s : Self) (key heading plain : List ℕ) → length key ≡ 32 → length heading ≡ 20 → length plain ≤ plain_limit → length (sealing s key heading plain) ≡ length plain + overhead s };
 
-    ghost apart: { (s : Self) (key heading plain other : List ℕ) → length key ≡ 32 → length heading ≡ 20 → length plain ≤ plainLimit → length other ≤ plainLimit → sealing s key heading plain ≡ sealing s key heading other → plain ≡ other };
+    ghost apart: { (s : Self) (key heading plain other : List ℕ) → length key ≡ 32 → length heading ≡ 20 → length plain ≤ plain_limit → length other ≤ plain_limit → sealing s key heading plain ≡ sealing s key heading other → plain ≡ other };
 }
 
 /// The limits of plains and of overheads.
 pub fn limits_stand()
-    ensures plain { PLAIN_LIMIT ≡ plainLimit }
-    ensures overhead { OVERHEAD_LIMIT ≡ overheadLimit }
+    ensures plain { PLAIN_LIMIT ≡ plain_limit }
+    ensures overhead { OVERHEAD_LIMIT ≡ overhead_limit }
 {}
 
 /// Writes the heading of a ticket: the key's name, and the ticket's number.
 #[tactic(auto, using(crate::proofs::Parts::number_after_name))]
 pub fn heading(name: &[u8; 16], number: u32, out: &mut [u8; 20])
-    ensures { out.new ≡ headingOf name.now number }
+    ensures { out.new ≡ heading_of name.now number }
 {
     out[0..16].copy_from_slice(name);
     put_u32(out, 16, number);

@@ -4,48 +4,48 @@ use lib.Seq.{paste}
 use Rattle.std.proofs.lemmas.List.{length-take-le, take_at, take-append-drop, drop-replicate}
 use Rattle.octets.specs.Buffers.{zeros, filled}
 use Rattle.session.proofs.Rows.{filled_next}
-use Rattle.sealer.specs.Limits.{plainLimit}
+use Rattle.sealer.specs.Limits.{plain_limit}
 use Rattle.sealer.specs.Outcomes.{PlainOf, NoPlain}
-use Rattle.sealing.specs.Covering.{covered, sealingOf}
-use Rattle.sealing.proofs.Covers.{covered-long, twice, sealing-long, sealing-parts}
+use Rattle.sealing.specs.Covering.{covered, sealing_of}
+use Rattle.sealing.proofs.Covers.{covered_long, twice, sealing_long, sealing_parts}
 
 -- what a filled buffer begins with
-pub filled-front : (xs : List ℕ) (room n : ℕ) → length xs ≡ n → take n (filled xs room) ≡ xs
-filled-front xs room n e = take_at xs (zeros (room - length xs)) n e
+pub filled_front : (xs : List ℕ) (room n : ℕ) → length xs ≡ n → take n (filled xs room) ≡ xs
+filled_front xs room n e = take_at xs (zeros (room - length xs)) n e
 
 -- a covered plain at the start of a cleared buffer
-pub covered-zeros : (block : ℕ → List ℕ) (size : ℕ) (plain was : List ℕ) (room : ℕ) → was ≡ zeros room → covered block size plain ++ drop (length plain) was ≡ filled (covered block size plain) room
-covered-zeros block size plain was room e =
-    let long : length (covered block size plain) ≡ length plain = covered-long block size plain in
+pub covered_zeros : (block : ℕ → List ℕ) (size : ℕ) (plain was : List ℕ) (room : ℕ) → was ≡ zeros room → covered block size plain ++ drop (length plain) was ≡ filled (covered block size plain) room
+covered_zeros block size plain was room e =
+    let long : length (covered block size plain) ≡ length plain = covered_long block size plain in
     rw (e, long, drop-replicate {X = ℕ} (length plain) room 0)
 
 module _ (block : ℕ → List ℕ) (size : ℕ) (tag : List ℕ → List ℕ) (extra : ℕ) (tagged : (c : List ℕ) → length (tag c) ≡ extra) (sealed : List ℕ) where
-  plain-long : (plain : List ℕ) → PlainOf (sealingOf block size tag) sealed plain → length sealed ≡ length plain + extra
-  plain-long plain p = ap length (sym p.seals) ∙ sealing-long block size tag extra tagged plain
+  plain_long : (plain : List ℕ) → PlainOf (sealing_of block size tag) sealed plain → length sealed ≡ length plain + extra
+  plain_long plain p = ap length (sym p.seals) ∙ sealing_long block size tag extra tagged plain
 
-  pub too_short : length sealed < extra → NoPlain (sealingOf block size tag) sealed
-  too_short h plain p = omega (arith, plain-long plain p)
+  pub too_short : length sealed < extra → NoPlain (sealing_of block size tag) sealed
+  too_short h plain p = omega (arith, plain_long plain p)
 
-  pub too_long : plainLimit < length sealed - extra → NoPlain (sealingOf block size tag) sealed
-  too_long h plain p = omega (arith, plain-long plain p, p.short)
+  pub too_long : plain_limit < length sealed - extra → NoPlain (sealing_of block size tag) sealed
+  too_long h plain p = omega (arith, plain_long plain p, p.short)
 
   -- bytes whose tag is another are no sealing
-  pub other_tag : (tag (take (length sealed - extra) sealed) ≡ drop (length sealed - extra) sealed → ⊥) → NoPlain (sealingOf block size tag) sealed
+  pub other_tag : (tag (take (length sealed - extra) sealed) ≡ drop (length sealed - extra) sealed → ⊥) → NoPlain (sealing_of block size tag) sealed
   other_tag differ plain p =
-      let q = sealing-parts block size tag extra tagged plain sealed p.seals in
+      let q = sealing_parts block size tag extra tagged plain sealed p.seals in
       differ (ap tag q.0 ∙ sym q.1)
 
   -- bytes whose tag is right are the sealing of what they cover
-  pub same_tag : extra ≤ length sealed → length sealed - extra ≤ plainLimit → tag (take (length sealed - extra) sealed) ≡ drop (length sealed - extra) sealed → PlainOf (sealingOf block size tag) sealed (covered block size (take (length sealed - extra) sealed))
-  unfolding sealingOf
+  pub same_tag : extra ≤ length sealed → length sealed - extra ≤ plain_limit → tag (take (length sealed - extra) sealed) ≡ drop (length sealed - extra) sealed → PlainOf (sealing_of block size tag) sealed (covered block size (take (length sealed - extra) sealed))
+  unfolding sealing_of
   same_tag low high same =
       let n : ℕ = length sealed - extra in
       let c : List ℕ = take n sealed in
       let long : length c ≡ n = length-take-le n sealed (omega arith) in
-      record { short = omega (arith, covered-long block size c); seals = rw (twice block size c, same) (take-append-drop n sealed) }
+      record { short = omega (arith, covered_long block size c); seals = rw (twice block size c, same) (take-append-drop n sealed) }
 
 -- a sealing that is written in two parts
-pub sealed-parts : (block : ℕ → List ℕ) (size : ℕ) (tag : List ℕ → List ℕ) (extra : ℕ) (plain end : List ℕ) (room : ℕ) → length end ≡ extra → end ≡ tag (covered block size plain) → length plain + extra ≤ room → paste (filled (covered block size plain) room) (length plain) end extra ≡ filled (sealingOf block size tag plain) room
-unfolding sealingOf
-sealed-parts block size tag extra plain end room long is fits =
-    filled_next (covered block size plain) end room (length plain) extra (covered-long block size plain) long fits ∙ rw is
+pub sealed_parts : (block : ℕ → List ℕ) (size : ℕ) (tag : List ℕ → List ℕ) (extra : ℕ) (plain end : List ℕ) (room : ℕ) → length end ≡ extra → end ≡ tag (covered block size plain) → length plain + extra ≤ room → paste (filled (covered block size plain) room) (length plain) end extra ≡ filled (sealing_of block size tag plain) room
+unfolding sealing_of
+sealed_parts block size tag extra plain end room long is fits =
+    filled_next (covered block size plain) end room (length plain) extra (covered_long block size plain) long fits ∙ rw is

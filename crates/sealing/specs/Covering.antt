@@ -3,16 +3,16 @@ use Rattle.std.specs.Prelude.{◌≡◌, ℕ, ◌+◌, ◌-◌, ◌/◌, ◌%◌
 use Rattle.std.specs.List.{range_with_len}
 
 -- byte k of the plain XOR byte k of the keystream
-unfoldable pub coveredAt : (ℕ → List ℕ) → ℕ → List ℕ → ℕ → ℕ
-coveredAt block size plain k = bit_xor (slice_index plain k) (slice_index (block (k / size)) (k % size))
+unfoldable pub covered_at : (ℕ → List ℕ) → ℕ → List ℕ → ℕ → ℕ
+covered_at block size plain k = bit_xor (slice_index plain k) (slice_index (block (k / size)) (k % size))
 
 -- the plain XOR the keystream
 unfoldable pub covered : (ℕ → List ℕ) → ℕ → List ℕ → List ℕ
-covered block size plain = map (coveredAt block size plain) (range_with_len 0 (length plain))
+covered block size plain = map (covered_at block size plain) (range_with_len 0 (length plain))
 
 -- the covered plain, then its tag
-unfoldable pub sealingOf : (ℕ → List ℕ) → ℕ → (List ℕ → List ℕ) → List ℕ → List ℕ
-sealingOf block size tag plain = covered block size plain ++ tag (covered block size plain)
+unfoldable pub sealing_of : (ℕ → List ℕ) → ℕ → (List ℕ → List ℕ) → List ℕ → List ℕ
+sealing_of block size tag plain = covered block size plain ++ tag (covered block size plain)
 
 -- what a buffer holds after one block was laid over the plain's bytes from a place on
 pub record Laid (plain block : List ℕ) (size at : ℕ) (was out : List ℕ) : Type 0 where

@@ -6,9 +6,9 @@
 
 ghost use Rattle.std.specs.Prelude.{◌≡◌, ℕ, ◌+◌, ◌<◌, ◌≤◌, List, ◌++◌, length, drop};
 ghost use Rattle.octets.specs.Buffers.{zeros, filled};
-ghost use Rattle.sealer.specs.Limits.{plainLimit, overheadLimit};
+ghost use Rattle.sealer.specs.Limits.{plain_limit, overhead_limit};
 ghost use Rattle.sealer.specs.Outcomes.{Sealed, Opened};
-ghost use Rattle.sealing.specs.Covering.{Laid, covered, sealingOf};
+ghost use Rattle.sealing.specs.Covering.{Laid, covered, sealing_of};
 ghost use Rattle.sealing.specs.Laws.{SealingLaws};
 
 use octets::{clear, same_bytes};
@@ -58,7 +58,7 @@ pub trait Scheme {
 
     ghost held: { (s : Self) → size s ≤ 64 };
 
-    ghost limited: { (s : Self) → extra s ≤ overheadLimit };
+    ghost limited: { (s : Self) → extra s ≤ overhead_limit };
 
     ghost whole: { (s : Self) (key : List ℕ) (index : ℕ) → length (block s key index) ≡ size s };
 
@@ -82,7 +82,7 @@ fn lay(plain: &[u8], block: &[u8; 64], size: usize, out: &mut [u8], at: usize)
 
 // Writes the covered plain to the buffer's start. The pad is left with a block of the keystream.
 fn cover<S: Scheme>(scheme: &S, key: &[u8; 32], plain: &[u8], out: &mut [u8], pad: &mut [u8; 64])
-    requires { (length plain.now ≤ plainLimit) × (length plain.now ≤ length out.old) }
+    requires { (length plain.now ≤ plain_limit) × (length plain.now ≤ length out.old) }
     ensures { out.new ≡ covered (S.Scheme.block scheme.now key.now) (S.Scheme.size scheme.now) plain.now ++ drop (length plain.now) out.old }
 {
     let size = scheme.size();
@@ -114,7 +114,7 @@ pub fn seal<S: Scheme>(
     out: &mut [u8],
     pad: &mut [u8; 64],
 ) -> Result<usize, Refusal>
-    ensures sealed { Sealed (sealingOf (S.Scheme.block scheme.now key.now) (S.Scheme.size scheme.now) (S.Scheme.tag scheme.now key.now heading.now)) (S.Scheme.extra scheme.now) plain.now (length out.old) result out.new }
+    ensures sealed { Sealed (sealing_of (S.Scheme.block scheme.now key.now) (S.Scheme.size scheme.now) (S.Scheme.tag scheme.now key.now heading.now)) (S.Scheme.extra scheme.now) plain.now (length out.old) result out.new }
     ensures wiped { pad.new ≡ zeros 64 }
 {
     clear_both(out, pad);
@@ -139,7 +139,7 @@ pub fn open<S: Scheme>(
     out: &mut [u8],
     pad: &mut [u8; 64],
 ) -> Result<Option<usize>, Refusal>
-    ensures opened { Opened (sealingOf (S.Scheme.block scheme.now key.now) (S.Scheme.size scheme.now) (S.Scheme.tag scheme.now key.now heading.now)) sealed.now (length out.old) result out.new }
+    ensures opened { Opened (sealing_of (S.Scheme.block scheme.now key.now) (S.Scheme.size scheme.now) (S.Scheme.tag scheme.now key.now heading.now)) sealed.now (length out.old) result out.new }
     ensures wiped { pad.new ≡ zeros 64 }
 {
     clear_both(out, pad);

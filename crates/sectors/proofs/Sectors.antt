@@ -2,12 +2,12 @@
 use Rattle.std.proofs.Common.{◌≡◌, ℕ, ◌+◌, ◌*◌, ◌/◌, ◌≤◌, List, ◌++◌, length, take, drop, sym, ap, ◌∙◌, append_assoc, div-mul-le_self, arith, take-add}
 use lib.Seq.{paste, length-paste}
 use Rattle.std.proofs.lemmas.List.{drop-drop, take-take, take_all, take-append-drop, drop-append-le, length-take, length-drop}
-use Rattle.device.specs.Effects.{slotSize}
+use Rattle.device.specs.Effects.{slot_size}
 use Rattle.medium.proofs.Rows.{pasting}
-use Rattle.sectors.specs.Sectors.{sectorSize, sectorSlots}
+use Rattle.sectors.specs.Sectors.{sector_size, sector_slots}
 
-pub room : (l : ℕ) → l / sectorSize * sectorSlots * slotSize ≤ l
-room l = let d = div-mul-le_self l sectorSize in omega arith
+pub room : (l : ℕ) → l / sector_size * sector_slots * slot_size ≤ l
+room l = let d = div-mul-le_self l sector_size in omega arith
 
 -- the sector of w bytes from s on, with m bytes of b pasted into it, put back in its place: those bytes pasted into the row
 pub within : (w s at m : ℕ) (row b : List ℕ) → at + m ≤ w → s + w ≤ length row → m ≤ length b → paste row s (paste (take w (drop s row)) at b m) w ≡ paste row (s + at) b m

@@ -4,9 +4,9 @@
 
 ghost use Rattle.std.specs.Prelude.{◌≡◌, ◌*◌, ◌/◌, ◌<◌, ◌≤◌, true, length, replicate, Some, None};
 ghost use Rattle.std.proofs.Math.Seq.{paste};
-ghost use Rattle.device.specs.Effects.{Tearing, Restarting, slotSize};
+ghost use Rattle.device.specs.Effects.{Tearing, Restarting, slot_size};
 ghost use Rattle.medium.specs.Appointed.{Struck, Restarted, partly};
-ghost use Rattle.sectors.specs.Sectors.{slotsBySector, sectorSize, sectorSlots};
+ghost use Rattle.sectors.specs.Sectors.{slots_by_sector, sector_size, sector_slots};
 
 use device::{DeviceFault, ReadSlots, SLOT_SIZE, TearSlots};
 use medium::{Cut, strike};
@@ -30,7 +30,7 @@ pub struct SectorImage<'a> {
 impl<'a> SectorImage<'a> {
     /// An image over a lent row, with its power on and no cut appointed.
     pub fn new(row: &'a mut [u8]) -> SectorImage<'a>
-        ensures { (result.row.now ≡ row.old) × ((result.sector ≡ replicate sectorSize 0) × ((result.power ≡ true) × (result.cut ≡ None))) }
+        ensures { (result.row.now ≡ row.old) × ((result.sector ≡ replicate sector_size 0) × ((result.power ≡ true) × (result.cut ≡ None))) }
     {
         SectorImage {
             row,
@@ -50,9 +50,9 @@ impl<'a> SectorImage<'a> {
 
     // Puts the first bytes of a slot in place.
     fn store(&mut self, index: usize, bytes: &[u8; 64], kept: usize)
-        requires { (index < length self.old.row.now / sectorSize * sectorSlots) × (kept ≤ slotSize) }
-        ensures put { self.new.row.now ≡ paste self.old.row.now (index * slotSize) bytes.now kept }
-        ensures wiped { self.new.sector ≡ replicate sectorSize 0 }
+        requires { (index < length self.old.row.now / sector_size * sector_slots) × (kept ≤ slot_size) }
+        ensures put { self.new.row.now ≡ paste self.old.row.now (index * slot_size) bytes.now kept }
+        ensures wiped { self.new.sector ≡ replicate sector_size 0 }
         ensures same { (self.new.power ≡ self.old.power) × (self.new.cut ≡ self.old.cut) }
     {
         let SectorImage { row, sector, .. } = self;
@@ -62,8 +62,8 @@ impl<'a> SectorImage<'a> {
     // A write, and just what it does to the row.
     #[tactic(auto, using(medium::proofs::Rows::many))]
     fn write_row(&mut self, index: usize, bytes: &[u8; 64]) -> Result<(), DeviceFault>
-        ensures exact { Struck partly (slotsBySector self.old.row.now) self.old.row.now self.old.power self.old.cut index bytes.now result self.new.row.now self.new.power self.new.cut }
-        ensures wiped { self.old.sector ≡ replicate sectorSize 0 → self.new.sector ≡ replicate sectorSize 0 }
+        ensures exact { Struck partly (slots_by_sector self.old.row.now) self.old.row.now self.old.power self.old.cut index bytes.now result self.new.row.now self.new.power self.new.cut }
+        ensures wiped { self.old.sector ≡ replicate sector_size 0 → self.new.sector ≡ replicate sector_size 0 }
     {
         if index >= self.count() {
             return Err(DeviceFault::NoSuchSlot);
@@ -89,9 +89,9 @@ impl<'a> SectorImage<'a> {
 // Puts the first bytes of a slot in place, by way of its whole sector.
 #[tactic(auto, using(crate::proofs::Sectors::putting))]
 fn rewrite(row: &mut [u8], sector: &mut [u8; 512], index: usize, bytes: &[u8; 64], kept: usize)
-    requires { (index < length row.old / sectorSize * sectorSlots) × (kept ≤ slotSize) }
-    ensures put { row.new ≡ paste row.old (index * slotSize) bytes.now kept }
-    ensures wiped { sector.new ≡ replicate sectorSize 0 }
+    requires { (index < length row.old / sector_size * sector_slots) × (kept ≤ slot_size) }
+    ensures put { row.new ≡ paste row.old (index * slot_size) bytes.now kept }
+    ensures wiped { sector.new ≡ replicate sector_size 0 }
 {
     let start = index / SECTOR_SLOTS * SECTOR_SIZE;
     let at = index % SECTOR_SLOTS * SLOT_SIZE;
@@ -102,7 +102,7 @@ fn rewrite(row: &mut [u8], sector: &mut [u8; 512], index: usize, bytes: &[u8; 64
 }
 
 impl<'a> ReadSlots for SectorImage<'a> {
-    ghost slots = { λ s. slotsBySector s.row.now };
+    ghost slots = { λ s. slots_by_sector s.row.now };
 
     ghost powered = { λ s. s.power };
 
@@ -128,15 +128,15 @@ impl<'a> ReadSlots for SectorImage<'a> {
 
 impl<'a> TearSlots for SectorImage<'a> {
     fn write(&mut self, index: usize, bytes: &[u8; 64]) -> Result<(), DeviceFault>
-        ensures meaning { Tearing (slotsBySector self.old.row.now) self.old.power index bytes.now result (slotsBySector self.new.row.now) self.new.power }
-        ensures exact { Struck partly (slotsBySector self.old.row.now) self.old.row.now self.old.power self.old.cut index bytes.now result self.new.row.now self.new.power self.new.cut }
-        ensures wiped { self.old.sector ≡ replicate sectorSize 0 → self.new.sector ≡ replicate sectorSize 0 }
+        ensures meaning { Tearing (slots_by_sector self.old.row.now) self.old.power index bytes.now result (slots_by_sector self.new.row.now) self.new.power }
+        ensures exact { Struck partly (slots_by_sector self.old.row.now) self.old.row.now self.old.power self.old.cut index bytes.now result self.new.row.now self.new.power self.new.cut }
+        ensures wiped { self.old.sector ≡ replicate sector_size 0 → self.new.sector ≡ replicate sector_size 0 }
     {
         self.write_row(index, bytes)
     }
 
     fn restart(&mut self) -> Result<(), DeviceFault>
-        ensures meaning { Restarting (slotsBySector self.old.row.now) result (slotsBySector self.new.row.now) self.new.power }
+        ensures meaning { Restarting (slots_by_sector self.old.row.now) result (slots_by_sector self.new.row.now) self.new.power }
         ensures exact { Restarted self.old.row.now self.old.cut result self.new.row.now self.new.power self.new.cut }
         ensures same { self.new.sector ≡ self.old.sector }
     {

@@ -5,12 +5,12 @@ use Rattle.fault.specs.declared.Call.{Call}
 use Rattle.fault.specs.declared.Call.TheVariants.{Make, Issue, Redeem, Reopen}
 use Rattle.fault.specs.declared.Halt.{Halt}
 use Rattle.fault.specs.declared.Fault.{Fault}
-use Rattle.fault.specs.Faults.{faultOf}
-use Rattle.tree.specs.Nodes.{treeLevels}
+use Rattle.fault.specs.Faults.{fault_of}
+use Rattle.tree.specs.Nodes.{tree_levels}
 use Rattle.rules.specs.Kits.{Kit, Lawful}
 use Rattle.rules.specs.Calls.{Outcome, Making, Issuing, Redeeming, Reopening}
-use Rattle.rules.specs.Books.{Book, freshBook, issue, redeem, close, reopen, fed}
-use Rattle.rules.specs.Pasts.{Mode, running, cold, isNoPower, wantsPower, Past}
+use Rattle.rules.specs.Books.{Book, fresh_book, issue, redeem, close, reopen, fed}
+use Rattle.rules.specs.Pasts.{Mode, running, cold, is_no_power, wants_power, Past}
 use Rattle.law.specs.Law.{Law}
 use Rattle.server.specs.declared.Cold.{Cold}
 use Rattle.server.specs.declared.Running.{Running}
@@ -18,59 +18,59 @@ use Rattle.server.specs.declared.Answered.{Answered}
 use Rattle.server.specs.declared.Answered.TheVariants.{Done, Refused, Cut}
 
 -- what stopped a call, without the call and the layer
-abbrev pub haltIn : Fault → Halt
-haltIn f = record { refusal = f.refusal; place = f.place; step = f.step }
+abbrev pub halt_in : Fault → Halt
+halt_in f = record { refusal = f.refusal; place = f.place; step = f.step }
 
 -- the answer of a call, where what stops it has become a fault
 abbrev pub faulted : {A : Type 0} → Call → Result A Halt → Result A Fault
 faulted c (Ok a) = Ok a
-faulted c (Err h) = Err (faultOf c h)
+faulted c (Err h) = Err (fault_of c h)
 
 -- ---- the calls over the parts of a server: what the rules say, and the fault for what stopped the call
 abbrev pub MakeWithin : Kit → Slots → Bool → List ℕ → List ℕ → Result (Unit {0}) Fault → Slots → Bool → Type 0
-MakeWithin k s on root name a t on' = (r : Result (Unit {0}) Halt) × (a ≡ faulted Make r) × ((headed : Bool) × Making k treeLevels s on root name r t on' headed)
+MakeWithin k s on root name a t on' = (r : Result (Unit {0}) Halt) × (a ≡ faulted Make r) × ((headed : Bool) × Making k tree_levels s on root name r t on' headed)
 
 abbrev pub ReopenWithin : Kit → Slots → Bool → ℕ → Result (Unit {0}) Fault → Slots → Bool → Type 0
-ReopenWithin k s on marks a t on' = (r : Result (Unit {0}) Halt) × (a ≡ faulted Reopen r) × Reopening k treeLevels s on marks r t on'
+ReopenWithin k s on marks a t on' = (r : Result (Unit {0}) Halt) × (a ≡ faulted Reopen r) × Reopening k tree_levels s on marks r t on'
 
 abbrev pub IssueWithin : Kit → Slots → Bool → List ℕ → ℕ → ℕ → Result (ℕ × ℕ) Fault → List ℕ → Slots → Bool → Type 0
-IssueWithin k s on plain room marks a ticket t on' = (r : Outcome) × (a ≡ faulted Issue r) × ((headed : Bool) × Issuing k treeLevels s on plain room marks r ticket t on' headed)
+IssueWithin k s on plain room marks a ticket t on' = (r : Outcome) × (a ≡ faulted Issue r) × ((headed : Bool) × Issuing k tree_levels s on plain room marks r ticket t on' headed)
 
 abbrev pub RedeemWithin : Kit → Slots → Bool → List ℕ → ℕ → ℕ → Result (ℕ × ℕ) Fault → List ℕ → Slots → Bool → Type 0
-RedeemWithin k s on ticket room marks a state t on' = (r : Outcome) × (a ≡ faulted Redeem r) × ((joined : Bool) × Redeeming k treeLevels s on ticket room marks r state t on' joined)
+RedeemWithin k s on ticket room marks a state t on' = (r : Outcome) × (a ≡ faulted Redeem r) × ((joined : Bool) × Redeeming k tree_levels s on ticket room marks r state t on' joined)
 
 module _ {D G S : Type 0} where
   -- the parts that an answer hands back, whether the server runs, and the outcome
-  abbrev pub deviceOf : Answered D G S → D
-  deviceOf (Done m a) = m.device
-  deviceOf (Refused m f) = m.device
-  deviceOf (Cut m f) = m.device
+  abbrev pub device_of : Answered D G S → D
+  device_of (Done m a) = m.device
+  device_of (Refused m f) = m.device
+  device_of (Cut m f) = m.device
 
-  abbrev pub generatorOf : Answered D G S → G
-  generatorOf (Done m a) = m.generator
-  generatorOf (Refused m f) = m.generator
-  generatorOf (Cut m f) = m.generator
+  abbrev pub generator_of : Answered D G S → G
+  generator_of (Done m a) = m.generator
+  generator_of (Refused m f) = m.generator
+  generator_of (Cut m f) = m.generator
 
-  abbrev pub sealerOf : Answered D G S → S
-  sealerOf (Done m a) = m.sealer
-  sealerOf (Refused m f) = m.sealer
-  sealerOf (Cut m f) = m.sealer
+  abbrev pub sealer_of : Answered D G S → S
+  sealer_of (Done m a) = m.sealer
+  sealer_of (Refused m f) = m.sealer
+  sealer_of (Cut m f) = m.sealer
 
-  abbrev pub modeIn : Answered D G S → Mode
-  modeIn (Done m a) = running
-  modeIn (Refused m f) = running
-  modeIn (Cut m f) = cold
+  abbrev pub mode_in : Answered D G S → Mode
+  mode_in (Done m a) = running
+  mode_in (Refused m f) = running
+  mode_in (Cut m f) = cold
 
-  abbrev pub outcomeIn : Answered D G S → Outcome
-  outcomeIn (Done m a) = Ok a
-  outcomeIn (Refused m f) = Err (haltIn f)
-  outcomeIn (Cut m f) = Err (haltIn f)
+  abbrev pub outcome_in : Answered D G S → Outcome
+  outcome_in (Done m a) = Ok a
+  outcome_in (Refused m f) = Err (halt_in f)
+  outcome_in (Cut m f) = Err (halt_in f)
 
   -- the fault bears the call and the layer, and the server is cold just after want of power
   abbrev pub FaultOf : Call → Answered D G S → Type 0
   FaultOf c (Done m a) = Unit {0}
-  FaultOf c (Refused m f) = (f ≡ faultOf c (haltIn f)) × (wantsPower (haltIn f) ≡ false)
-  FaultOf c (Cut m f) = (f ≡ faultOf c (haltIn f)) × (wantsPower (haltIn f) ≡ true)
+  FaultOf c (Refused m f) = (f ≡ fault_of c (halt_in f)) × (wants_power (halt_in f) ≡ false)
+  FaultOf c (Cut m f) = (f ≡ fault_of c (halt_in f)) × (wants_power (halt_in f) ≡ true)
 
   -- a server that was to be made or reopened is handed back: running, or cold with the fault
   abbrev pub started_by : D → G → S → Result (Unit {0}) Fault → Result (Running D G S) (Cold D G S × Fault)
@@ -84,57 +84,57 @@ module _ {D G S : Type 0} where
 
   abbrev pub answered_by : D → G → S → Result (ℕ × ℕ) Fault → Answered D G S
   answered_by d g w (Ok a) = Done (record { device = d; generator = g; sealer = w }) a
-  answered_by d g w (Err f) = refused_by (isNoPower f.refusal) d g w f
+  answered_by d g w (Err f) = refused_by (is_no_power f.refusal) d g w f
 
   module _ (slots : D → Slots) (powered : D → Bool) where
     -- issue: what it does, that a past goes on, and the law over pasts
     pub record IssueCall (k : Kit) (me : Running D G S) (plain : List ℕ) (room marks : ℕ) (ticket : List ℕ) (r : Answered D G S) : Type 0 where
       -- whether the head's write stands
       pub headed : Bool
-      pub did : Issuing k treeLevels (slots me.device) (powered me.device) plain room marks (outcomeIn r) ticket (slots (deviceOf r)) (powered (deviceOf r)) headed
-      pub sameGenerator : generatorOf r ≡ me.generator
-      pub sameSealer : sealerOf r ≡ me.sealer
+      pub did : Issuing k tree_levels (slots me.device) (powered me.device) plain room marks (outcome_in r) ticket (slots (device_of r)) (powered (device_of r)) headed
+      pub same_generator : generator_of r ≡ me.generator
+      pub same_sealer : sealer_of r ≡ me.sealer
       pub fault : FaultOf Issue r
-      pub past : (root name : List ℕ) (b : Book) → Past k treeLevels root name running (slots me.device) (powered me.device) b →
-          Past k treeLevels root name (modeIn r) (slots (deviceOf r)) (powered (deviceOf r)) (fed b (issue plain (outcomeIn r) ticket headed))
+      pub past : (root name : List ℕ) (b : Book) → Past k tree_levels root name running (slots me.device) (powered me.device) b →
+          Past k tree_levels root name (mode_in r) (slots (device_of r)) (powered (device_of r)) (fed b (issue plain (outcome_in r) ticket headed))
       pub lawful : Lawful k
       pub law : Law
 
     pub record RedeemCall (k : Kit) (me : Running D G S) (ticket : List ℕ) (room marks : ℕ) (state : List ℕ) (r : Answered D G S) : Type 0 where
       -- whether the join's write stands
       pub joined : Bool
-      pub did : Redeeming k treeLevels (slots me.device) (powered me.device) ticket room marks (outcomeIn r) state (slots (deviceOf r)) (powered (deviceOf r)) joined
-      pub sameGenerator : generatorOf r ≡ me.generator
-      pub sameSealer : sealerOf r ≡ me.sealer
+      pub did : Redeeming k tree_levels (slots me.device) (powered me.device) ticket room marks (outcome_in r) state (slots (device_of r)) (powered (device_of r)) joined
+      pub same_generator : generator_of r ≡ me.generator
+      pub same_sealer : sealer_of r ≡ me.sealer
       pub fault : FaultOf Redeem r
-      pub past : (root name : List ℕ) (b : Book) → Past k treeLevels root name running (slots me.device) (powered me.device) b →
-          Past k treeLevels root name (modeIn r) (slots (deviceOf r)) (powered (deviceOf r)) (fed b (redeem ticket (outcomeIn r) joined))
+      pub past : (root name : List ℕ) (b : Book) → Past k tree_levels root name running (slots me.device) (powered me.device) b →
+          Past k tree_levels root name (mode_in r) (slots (device_of r)) (powered (device_of r)) (fed b (redeem ticket (outcome_in r) joined))
       pub lawful : Lawful k
       pub law : Law
 
     -- make: where the head's write stands, a past begins with a fresh book
     pub data MakeCall (k : Kit) (me : Cold D G S) (root name : List ℕ) (r : Result (Running D G S) (Cold D G S × Fault)) : Type 0 where
       made : (m : Running D G S) → r ≡ Ok m → m.generator ≡ me.generator → m.sealer ≡ me.sealer →
-          Making k treeLevels (slots me.device) (powered me.device) root name (Ok tt) (slots m.device) (powered m.device) true →
-          Past k treeLevels root name running (slots m.device) (powered m.device) freshBook → MakeCall k me root name r
-      unmade : (m : Cold D G S) (h : Halt) (headed : Bool) → r ≡ Err (m, faultOf Make h) → m.generator ≡ me.generator → m.sealer ≡ me.sealer →
-          Making k treeLevels (slots me.device) (powered me.device) root name (Err h) (slots m.device) (powered m.device) headed →
-          (headed ≡ true → Past k treeLevels root name cold (slots m.device) (powered m.device) freshBook) → MakeCall k me root name r
+          Making k tree_levels (slots me.device) (powered me.device) root name (Ok tt) (slots m.device) (powered m.device) true →
+          Past k tree_levels root name running (slots m.device) (powered m.device) fresh_book → MakeCall k me root name r
+      unmade : (m : Cold D G S) (h : Halt) (headed : Bool) → r ≡ Err (m, fault_of Make h) → m.generator ≡ me.generator → m.sealer ≡ me.sealer →
+          Making k tree_levels (slots me.device) (powered me.device) root name (Err h) (slots m.device) (powered m.device) headed →
+          (headed ≡ true → Past k tree_levels root name cold (slots m.device) (powered m.device) fresh_book) → MakeCall k me root name r
 
     pub data ReopenCall (k : Kit) (me : Cold D G S) (marks : ℕ) (r : Result (Running D G S) (Cold D G S × Fault)) : Type 0 where
       reopened : (m : Running D G S) → r ≡ Ok m → m.generator ≡ me.generator → m.sealer ≡ me.sealer →
-          Reopening k treeLevels (slots me.device) (powered me.device) marks (Ok tt) (slots m.device) (powered m.device) →
-          ((root name : List ℕ) (b : Book) → Past k treeLevels root name cold (slots me.device) (powered me.device) b →
-          Past k treeLevels root name running (slots m.device) (powered m.device) (fed b (reopen (Ok tt)))) → ReopenCall k me marks r
-      unopened : (m : Cold D G S) (h : Halt) → r ≡ Err (m, faultOf Reopen h) → m.generator ≡ me.generator → m.sealer ≡ me.sealer →
-          Reopening k treeLevels (slots me.device) (powered me.device) marks (Err h) (slots m.device) (powered m.device) →
-          ((root name : List ℕ) (b : Book) → Past k treeLevels root name cold (slots me.device) (powered me.device) b →
-          Past k treeLevels root name cold (slots m.device) (powered m.device) (fed b (reopen (Err h)))) → ReopenCall k me marks r
+          Reopening k tree_levels (slots me.device) (powered me.device) marks (Ok tt) (slots m.device) (powered m.device) →
+          ((root name : List ℕ) (b : Book) → Past k tree_levels root name cold (slots me.device) (powered me.device) b →
+          Past k tree_levels root name running (slots m.device) (powered m.device) (fed b (reopen (Ok tt)))) → ReopenCall k me marks r
+      unopened : (m : Cold D G S) (h : Halt) → r ≡ Err (m, fault_of Reopen h) → m.generator ≡ me.generator → m.sealer ≡ me.sealer →
+          Reopening k tree_levels (slots me.device) (powered me.device) marks (Err h) (slots m.device) (powered m.device) →
+          ((root name : List ℕ) (b : Book) → Past k tree_levels root name cold (slots me.device) (powered me.device) b →
+          Past k tree_levels root name cold (slots m.device) (powered m.device) (fed b (reopen (Err h)))) → ReopenCall k me marks r
 
     -- close: the same parts, and a past goes on
     pub record CloseCall (k : Kit) (me : Running D G S) (r : Cold D G S) : Type 0 where
-      pub sameDevice : r.device ≡ me.device
-      pub sameGenerator : r.generator ≡ me.generator
-      pub sameSealer : r.sealer ≡ me.sealer
-      pub past : (root name : List ℕ) (b : Book) → Past k treeLevels root name running (slots me.device) (powered me.device) b →
-          Past k treeLevels root name cold (slots r.device) (powered r.device) (fed b close)
+      pub same_device : r.device ≡ me.device
+      pub same_generator : r.generator ≡ me.generator
+      pub same_sealer : r.sealer ≡ me.sealer
+      pub past : (root name : List ℕ) (b : Book) → Past k tree_levels root name running (slots me.device) (powered me.device) b →
+          Past k tree_levels root name cold (slots r.device) (powered r.device) (fed b close)

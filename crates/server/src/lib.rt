@@ -8,7 +8,7 @@
 ghost use Rattle.std.specs.Prelude.{◌≡◌, length};
 ghost use Rattle.octets.specs.Buffers.{zeros};
 ghost use Rattle.scratch.specs.Clean.{Clean};
-ghost use Rattle.rules.specs.Kits.{kitOf};
+ghost use Rattle.rules.specs.Kits.{kit_of};
 ghost use Rattle.server.specs.Serving.{MakeCall, IssueCall, RedeemCall, CloseCall, ReopenCall, started_by, answered_by};
 
 mod parts;
@@ -141,7 +141,7 @@ impl<D: WriteSlots, G: Generator, S: Sealer> Cold<D, G, S> {
         name: &[u8; 16],
         scratch: &mut Scratch,
     ) -> Result<Running<D, G, S>, (Cold<D, G, S>, Fault)>
-        ensures did { MakeCall D.ReadSlots.slots D.ReadSlots.powered (kitOf (G.Generator.expansion self.generator) (G.Generator.code self.generator) (S.Sealer.sealing self.sealer) (S.Sealer.overhead self.sealer) (S.Sealer.number self.sealer)) self root.now name.now result }
+        ensures did { MakeCall D.ReadSlots.slots D.ReadSlots.powered (kit_of (G.Generator.expansion self.generator) (G.Generator.code self.generator) (S.Sealer.sealing self.sealer) (S.Sealer.overhead self.sealer) (S.Sealer.number self.sealer)) self root.now name.now result }
         ensures clean { Clean scratch.new }
     {
         let Cold {
@@ -159,7 +159,7 @@ impl<D: WriteSlots, G: Generator, S: Sealer> Cold<D, G, S> {
         marks: &mut [u8],
         scratch: &mut Scratch,
     ) -> Result<Running<D, G, S>, (Cold<D, G, S>, Fault)>
-        ensures did { ReopenCall D.ReadSlots.slots D.ReadSlots.powered (kitOf (G.Generator.expansion self.generator) (G.Generator.code self.generator) (S.Sealer.sealing self.sealer) (S.Sealer.overhead self.sealer) (S.Sealer.number self.sealer)) self (length marks.old) result }
+        ensures did { ReopenCall D.ReadSlots.slots D.ReadSlots.powered (kit_of (G.Generator.expansion self.generator) (G.Generator.code self.generator) (S.Sealer.sealing self.sealer) (S.Sealer.overhead self.sealer) (S.Sealer.number self.sealer)) self (length marks.old) result }
         ensures marks { marks.new ≡ zeros (length marks.old) }
         ensures clean { Clean scratch.new }
     {
@@ -176,7 +176,7 @@ impl<D: WriteSlots, G: Generator, S: Sealer> Cold<D, G, S> {
 impl<D: WriteSlots, G: Generator, S: Sealer> Running<D, G, S> {
     /// Closes the server; nothing is written.
     pub fn close(self) -> Cold<D, G, S>
-        ensures { CloseCall D.ReadSlots.slots D.ReadSlots.powered (kitOf (G.Generator.expansion self.generator) (G.Generator.code self.generator) (S.Sealer.sealing self.sealer) (S.Sealer.overhead self.sealer) (S.Sealer.number self.sealer)) self result }
+        ensures { CloseCall D.ReadSlots.slots D.ReadSlots.powered (kit_of (G.Generator.expansion self.generator) (G.Generator.code self.generator) (S.Sealer.sealing self.sealer) (S.Sealer.overhead self.sealer) (S.Sealer.number self.sealer)) self result }
     {
         let Running {
             device,
@@ -198,7 +198,7 @@ impl<D: WriteSlots, G: Generator, S: Sealer> Running<D, G, S> {
         marks: &mut [u8],
         scratch: &mut Scratch,
     ) -> Answered<D, G, S>
-        ensures did { IssueCall D.ReadSlots.slots D.ReadSlots.powered (kitOf (G.Generator.expansion self.generator) (G.Generator.code self.generator) (S.Sealer.sealing self.sealer) (S.Sealer.overhead self.sealer) (S.Sealer.number self.sealer)) self «record».now (length ticket.old) (length marks.old) ticket.new result }
+        ensures did { IssueCall D.ReadSlots.slots D.ReadSlots.powered (kit_of (G.Generator.expansion self.generator) (G.Generator.code self.generator) (S.Sealer.sealing self.sealer) (S.Sealer.overhead self.sealer) (S.Sealer.number self.sealer)) self «record».now (length ticket.old) (length marks.old) ticket.new result }
         ensures marks { marks.new ≡ zeros (length marks.old) }
         ensures clean { Clean scratch.new }
     {
@@ -227,7 +227,7 @@ impl<D: WriteSlots, G: Generator, S: Sealer> Running<D, G, S> {
         marks: &mut [u8],
         scratch: &mut Scratch,
     ) -> Answered<D, G, S>
-        ensures did { RedeemCall D.ReadSlots.slots D.ReadSlots.powered (kitOf (G.Generator.expansion self.generator) (G.Generator.code self.generator) (S.Sealer.sealing self.sealer) (S.Sealer.overhead self.sealer) (S.Sealer.number self.sealer)) self ticket.now (length state.old) (length marks.old) state.new result }
+        ensures did { RedeemCall D.ReadSlots.slots D.ReadSlots.powered (kit_of (G.Generator.expansion self.generator) (G.Generator.code self.generator) (S.Sealer.sealing self.sealer) (S.Sealer.overhead self.sealer) (S.Sealer.number self.sealer)) self ticket.now (length state.old) (length marks.old) state.new result }
         ensures marks { marks.new ≡ zeros (length marks.old) }
         ensures clean { Clean scratch.new }
     {

@@ -3,7 +3,7 @@
 ghost use Rattle.std.specs.Prelude.{◌≡◌, length};
 ghost use Rattle.octets.specs.Buffers.{zeros};
 ghost use Rattle.scratch.specs.Clean.{Clean};
-ghost use Rattle.rules.specs.Kits.{kitOf};
+ghost use Rattle.rules.specs.Kits.{kit_of};
 ghost use Rattle.server.specs.Serving.{MakeWithin, IssueWithin, RedeemWithin, ReopenWithin};
 
 use device::WriteSlots;
@@ -23,7 +23,7 @@ pub(super) fn make<D: WriteSlots, G: Generator, S: Sealer>(
     name: &[u8; 16],
     scratch: &mut Scratch,
 ) -> Result<(), Fault>
-    ensures did { MakeWithin (kitOf (G.Generator.expansion generator.now) (G.Generator.code generator.now) (S.Sealer.sealing sealer.now) (S.Sealer.overhead sealer.now) (S.Sealer.number sealer.now)) (D.ReadSlots.slots device.old) (D.ReadSlots.powered device.old) root.now name.now result (D.ReadSlots.slots device.new) (D.ReadSlots.powered device.new) }
+    ensures did { MakeWithin (kit_of (G.Generator.expansion generator.now) (G.Generator.code generator.now) (S.Sealer.sealing sealer.now) (S.Sealer.overhead sealer.now) (S.Sealer.number sealer.now)) (D.ReadSlots.slots device.old) (D.ReadSlots.powered device.old) root.now name.now result (D.ReadSlots.slots device.new) (D.ReadSlots.powered device.new) }
     ensures clean { Clean scratch.new }
 {
     let made = make_on(device, generator, sealer, root, name, &mut scratch.slot);
@@ -39,7 +39,7 @@ pub(super) fn reopen<D: WriteSlots, G: Generator, S: Sealer>(
     marks: &mut [u8],
     scratch: &mut Scratch,
 ) -> Result<(), Fault>
-    ensures did { ReopenWithin (kitOf (G.Generator.expansion generator.now) (G.Generator.code generator.now) (S.Sealer.sealing sealer.now) (S.Sealer.overhead sealer.now) (S.Sealer.number sealer.now)) (D.ReadSlots.slots device.old) (D.ReadSlots.powered device.old) (length marks.old) result (D.ReadSlots.slots device.new) (D.ReadSlots.powered device.new) }
+    ensures did { ReopenWithin (kit_of (G.Generator.expansion generator.now) (G.Generator.code generator.now) (S.Sealer.sealing sealer.now) (S.Sealer.overhead sealer.now) (S.Sealer.number sealer.now)) (D.ReadSlots.slots device.old) (D.ReadSlots.powered device.old) (length marks.old) result (D.ReadSlots.slots device.new) (D.ReadSlots.powered device.new) }
     ensures marks { marks.new ≡ zeros (length marks.old) }
     ensures clean { Clean scratch.new }
 {
@@ -58,7 +58,7 @@ pub(super) fn issue<D: WriteSlots, G: Generator, S: Sealer>(
     marks: &mut [u8],
     scratch: &mut Scratch,
 ) -> Result<(usize, u32), Fault>
-    ensures did { IssueWithin (kitOf (G.Generator.expansion generator.now) (G.Generator.code generator.now) (S.Sealer.sealing sealer.now) (S.Sealer.overhead sealer.now) (S.Sealer.number sealer.now)) (D.ReadSlots.slots device.old) (D.ReadSlots.powered device.old) «record».now (length ticket.old) (length marks.old) result ticket.new (D.ReadSlots.slots device.new) (D.ReadSlots.powered device.new) }
+    ensures did { IssueWithin (kit_of (G.Generator.expansion generator.now) (G.Generator.code generator.now) (S.Sealer.sealing sealer.now) (S.Sealer.overhead sealer.now) (S.Sealer.number sealer.now)) (D.ReadSlots.slots device.old) (D.ReadSlots.powered device.old) «record».now (length ticket.old) (length marks.old) result ticket.new (D.ReadSlots.slots device.new) (D.ReadSlots.powered device.new) }
     ensures marks { marks.new ≡ zeros (length marks.old) }
     ensures clean { Clean scratch.new }
 {
@@ -77,7 +77,7 @@ pub(super) fn redeem<D: WriteSlots, G: Generator, S: Sealer>(
     marks: &mut [u8],
     scratch: &mut Scratch,
 ) -> Result<(usize, u32), Fault>
-    ensures did { RedeemWithin (kitOf (G.Generator.expansion generator.now) (G.Generator.code generator.now) (S.Sealer.sealing sealer.now) (S.Sealer.overhead sealer.now) (S.Sealer.number sealer.now)) (D.ReadSlots.slots device.old) (D.ReadSlots.powered device.old) ticket.now (length state.old) (length marks.old) result state.new (D.ReadSlots.slots device.new) (D.ReadSlots.powered device.new) }
+    ensures did { RedeemWithin (kit_of (G.Generator.expansion generator.now) (G.Generator.code generator.now) (S.Sealer.sealing sealer.now) (S.Sealer.overhead sealer.now) (S.Sealer.number sealer.now)) (D.ReadSlots.slots device.old) (D.ReadSlots.powered device.old) ticket.now (length state.old) (length marks.old) result state.new (D.ReadSlots.slots device.new) (D.ReadSlots.powered device.new) }
     ensures marks { marks.new ≡ zeros (length marks.old) }
     ensures clean { Clean scratch.new }
 {

@@ -3,7 +3,7 @@
 
 ghost use Rattle.std.specs.Prelude.{◌≡◌};
 ghost use Rattle.serving.specs.Held.{parts_of, opening_of, device_in, record_in};
-ghost use Rattle.tree.specs.Nodes.{treeLevels};
+ghost use Rattle.tree.specs.Nodes.{tree_levels};
 
 use device::{ReadSlots, WriteSlots};
 use fault::Fault;
@@ -53,7 +53,7 @@ pub fn device_of<D: WriteSlots, G: Generator + Copy, S: Sealer + Copy>(server: H
 
 /// The record that a slot holds; none where the slot holds no record, or cannot be read.
 pub fn record_at<D: ReadSlots>(device: &D, slot: u16) -> Option<NodeFields>
-    ensures { result ≡ record_in treeLevels (D.slots device.now) (D.powered device.now) slot }
+    ensures { result ≡ record_in tree_levels (D.slots device.now) (D.powered device.now) slot }
 {
     let mut bytes = [0; 64];
     match device.read(slot as usize, &mut bytes) {

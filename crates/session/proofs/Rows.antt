@@ -18,8 +18,8 @@ pub field : (k m : ℕ) (b x r : List ℕ) → drop k b ≡ x ++ r → length x 
 field k m b x r e l = ap (take m) e ∙ take_at x r m l
 
 -- a part and what follows it
-pub part-rest : (k m : ℕ) (b : List ℕ) → take m (drop k b) ++ drop (k + m) b ≡ drop k b
-part-rest k m b = rw (← drop-drop m k b) (take-append-drop m (drop k b))
+pub part_rest : (k m : ℕ) (b : List ℕ) → take m (drop k b) ++ drop (k + m) b ≡ drop k b
+part_rest k m b = rw (← drop-drop m k b) (take-append-drop m (drop k b))
 
 pub bytes_drop : (k : ℕ) (b : List ℕ) → Bytes b → Bytes (drop k b)
 bytes_drop k b small j = subst (λ (x : ℕ). x < 256) (sym (get_or-drop k b j 0)) (small (k + j))
@@ -31,13 +31,13 @@ bytes_take n b small j = ⊎_elim
     (cases_lt j n)
 
 -- a number of n bytes is below 256 ^ n
-pub number-below : (n : ℕ) (b : List ℕ) → length b ≡ n → Bytes b → number_of b < 256 ^ n
+pub number_below : (n : ℕ) (b : List ℕ) → length b ≡ n → Bytes b → number_of b < 256 ^ n
 unfolding number_of
-number-below n b e small =
+number_below n b e small =
     subst (λ (m : ℕ). number_of b < 256 ^ m) e (number_lt 256 b (All-from_get_or (λ d. d < 256) b 0 (λ i h. small i)))
 
-pub length-filled : (p : List ℕ) (n : ℕ) → length p ≤ n → length (filled p n) ≡ n
-length-filled p n h = length-append p (zeros (n - length p)) ∙ omega (arith, length-replicate {A = ℕ} (n - length p) 0)
+pub length_filled : (p : List ℕ) (n : ℕ) → length p ≤ n → length (filled p n) ≡ n
+length_filled p n h = length-append p (zeros (n - length p)) ∙ omega (arith, length-replicate {A = ℕ} (n - length p) 0)
 
 pub filled_none : (n : ℕ) → zeros n ≡ filled [] n
 filled_none n = let e : n ≡ n - 0 = omega arith in ap (λ (m : ℕ). zeros m) e
@@ -56,21 +56,21 @@ filled_next p s n at m e f h =
     rw (take_at p z at e, take_all m s (omega arith), ← drop-drop m at (p ++ z), drop_at p z at e, drop-replicate {X = ℕ} m (n - length p) 0, k)
 
 -- one more byte
-pub filled-byte : (p : List ℕ) (n at x : ℕ) → length p ≡ at → at + 1 ≤ n → set (filled p n) at x ≡ filled (p ++ x ∷ []) n
-filled-byte p n at x e h =
+pub filled_byte : (p : List ℕ) (n at x : ℕ) → length p ≡ at → at + 1 ≤ n → set (filled p n) at x ≡ filled (p ++ x ∷ []) n
+filled_byte p n at x e h =
     let z : List ℕ = filled p n in
-    let l : at < length z = omega (arith, length-filled p n (omega arith)) in
+    let l : at < length z = omega (arith, length_filled p n (omega arith)) in
     set_split z at x l ∙ rw (← add-one at, ← append_assoc (take at z) (x ∷ []) (drop (at + 1) z)) (filled_next p (x ∷ []) n at 1 e refl h)
 
 -- a blank row is a row of zeros, and the other way round
-pub blank-zeros : (xs : List ℕ) → blank xs ≡ true → xs ≡ zeros (length xs)
-blank-zeros [] e = refl
-blank-zeros (x ∷ xs) e =
+pub blank_zeros : (xs : List ℕ) → blank xs ≡ true → xs ≡ zeros (length xs)
+blank_zeros [] e = refl
+blank_zeros (x ∷ xs) e =
     let p = and_parts (eqb x 0) (blank xs) e in
     let z : x ≡ 0 = eqb-true x 0 p.0 in
-    let r : xs ≡ zeros (length xs) = blank-zeros xs p.1 in
+    let r : xs ≡ zeros (length xs) = blank_zeros xs p.1 in
     cc
 
-pub zeros-blank : (n : ℕ) → blank (zeros n) ≡ true
-zeros-blank zero = refl
-zeros-blank (suc n) = zeros-blank n
+pub zeros_blank : (n : ℕ) → blank (zeros n) ≡ true
+zeros_blank zero = refl
+zeros_blank (suc n) = zeros_blank n

@@ -4,39 +4,39 @@ use Rattle.refusal.specs.declared.Refusal.{Refusal}
 use Rattle.std.proofs.lemmas.List.{length-drop, length-take-le, take_at, drop_at, take-append-drop, get_or-drop, drop_more}
 use Rattle.octets.specs.Buffers.{zeros, filled}
 use Rattle.octets.specs.Fields.{bytes_of, number_of}
-use Rattle.octets.proofs.Fielded.{length-bytes, number-bytes, bytes-number}
+use Rattle.octets.proofs.Fielded.{length_bytes, number_bytes, bytes_number}
 use Rattle.session.specs.declared.Suite.{Suite}
 use Rattle.session.specs.declared.Suite.TheVariants.{Aes128GcmSha256, Aes256GcmSha384, ChaCha20Poly1305Sha256}
 use Rattle.session.specs.declared.SessionState.{SessionState}
-use Rattle.session.specs.Limits.{secretLength, nameLimit, secretAt, name_at, leastLength, mostLength}
-use Rattle.session.specs.Suites.{suiteNumber}
-use Rattle.session.specs.Records.{Bytes, Typed, Fits, encodeOf, IsRecord, recordSuite, isRecord, read_of, readUnder, decodeOf}
-use Rattle.session.proofs.Rows.{past, field, part-rest, bytes_drop, bytes_take, number-below, length-filled}
-use Rattle.session.proofs.Laid.{Laid, suite-laid, laid-suite, read_some}
+use Rattle.session.specs.Limits.{secret_length, name_limit, secret_at, name_at, least_length, most_length}
+use Rattle.session.specs.Suites.{suite_number}
+use Rattle.session.specs.Records.{Bytes, Typed, Fits, encode_of, IsRecord, record_suite, is_record, read_of, read_under, decode_of}
+use Rattle.session.proofs.Rows.{past, field, part_rest, bytes_drop, bytes_take, number_below, length_filled}
+use Rattle.session.proofs.Laid.{Laid, suite_laid, laid_suite, read_some}
 
-suite-small : (t : Suite) → suiteNumber t < 65536
-suite-small Aes128GcmSha256 = omega arith
-suite-small Aes256GcmSha384 = omega arith
-suite-small ChaCha20Poly1305Sha256 = omega arith
+suite_small : (t : Suite) → suite_number t < 65536
+suite_small Aes128GcmSha256 = omega arith
+suite_small Aes256GcmSha384 = omega arith
+suite_small ChaCha20Poly1305Sha256 = omega arith
 
 -- the parts of a state's record
 pub record Parts (s : SessionState) (b : List ℕ) : Type 0 where
-  pub suite : number_of (take 2 b) ≡ suiteNumber s.suite
+  pub suite : number_of (take 2 b) ≡ suite_number s.suite
   pub issued : number_of (take 8 (drop 2 b)) ≡ s.issued_at
   pub lifetime : number_of (take 4 (drop 10 b)) ≡ s.lifetime
   pub age : number_of (take 4 (drop 14 b)) ≡ s.age_add
   pub early : number_of (take 4 (drop 18 b)) ≡ s.early_data_limit
-  pub secret : take (secretLength s.suite) (drop secretAt b) ≡ s.secret
+  pub secret : take (secret_length s.suite) (drop secret_at b) ≡ s.secret
   pub count : get_or b (name_at s.suite) 0 ≡ s.name_length
   pub name : drop (name_at s.suite + 1) b ≡ take s.name_length s.name
   pub long : length b ≡ name_at s.suite + 1 + length (take s.name_length s.name)
 
-pub parts : (s : SessionState) → Typed s → Parts s (encodeOf s)
-unfolding encodeOf
+pub parts : (s : SessionState) → Typed s → Parts s (encode_of s)
+unfolding encode_of
 parts s t =
-    let b : List ℕ = encodeOf s in
+    let b : List ℕ = encode_of s in
     let nm : List ℕ = take s.name_length s.name in
-    let x0 : List ℕ = bytes_of 2 (suiteNumber s.suite) in
+    let x0 : List ℕ = bytes_of 2 (suite_number s.suite) in
     let x1 : List ℕ = bytes_of 8 s.issued_at in
     let x2 : List ℕ = bytes_of 4 s.lifetime in
     let x3 : List ℕ = bytes_of 4 s.age_add in
@@ -46,179 +46,179 @@ parts s t =
     let r3 : List ℕ = x3 ++ r4 in
     let r2 : List ℕ = x2 ++ r3 in
     let r1 : List ℕ = x1 ++ r2 in
-    let l0 : length x0 ≡ 2 = length-bytes 2 (suiteNumber s.suite) in
-    let l1 : length x1 ≡ 8 = length-bytes 8 s.issued_at in
-    let l2 : length x2 ≡ 4 = length-bytes 4 s.lifetime in
-    let l3 : length x3 ≡ 4 = length-bytes 4 s.age_add in
-    let l4 : length x4 ≡ 4 = length-bytes 4 s.early_data_limit in
-    let l5 : length s.secret ≡ secretLength s.suite = t.secret in
+    let l0 : length x0 ≡ 2 = length_bytes 2 (suite_number s.suite) in
+    let l1 : length x1 ≡ 8 = length_bytes 8 s.issued_at in
+    let l2 : length x2 ≡ 4 = length_bytes 4 s.lifetime in
+    let l3 : length x3 ≡ 4 = length_bytes 4 s.age_add in
+    let l4 : length x4 ≡ 4 = length_bytes 4 s.early_data_limit in
+    let l5 : length s.secret ≡ secret_length s.suite = t.secret in
     let d0 : drop 0 b ≡ x0 ++ r1 = refl in
     let d1 : drop 2 b ≡ x1 ++ r2 = past 0 2 b x0 r1 d0 l0 in
     let d2 : drop 10 b ≡ x2 ++ r3 = past 2 8 b x1 r2 d1 l1 in
     let d3 : drop 14 b ≡ x3 ++ r4 = past 10 4 b x2 r3 d2 l2 in
     let d4 : drop 18 b ≡ x4 ++ r5 = past 14 4 b x3 r4 d3 l3 in
-    let d5 : drop secretAt b ≡ r5 = past 18 4 b x4 r5 d4 l4 in
-    let d6 : drop (name_at s.suite) b ≡ s.name_length ∷ nm = past secretAt (secretLength s.suite) b s.secret (s.name_length ∷ nm) d5 l5 in
+    let d5 : drop secret_at b ≡ r5 = past 18 4 b x4 r5 d4 l4 in
+    let d6 : drop (name_at s.suite) b ≡ s.name_length ∷ nm = past secret_at (secret_length s.suite) b s.secret (s.name_length ∷ nm) d5 l5 in
     let d7 : drop (name_at s.suite + 1) b ≡ nm = past (name_at s.suite) 1 b (s.name_length ∷ []) nm d6 refl in
     let n6 : length (drop (name_at s.suite) b) ≡ length (s.name_length ∷ nm) = ap length d6 in
     record {
-      suite = ap number_of (field 0 2 b x0 r1 d0 l0) ∙ number-bytes 2 (suiteNumber s.suite) (omega (arith, suite-small s.suite));
-      issued = ap number_of (field 2 8 b x1 r2 d1 l1) ∙ number-bytes 8 s.issued_at t.issuedAt;
-      lifetime = ap number_of (field 10 4 b x2 r3 d2 l2) ∙ number-bytes 4 s.lifetime t.lifetime;
-      age = ap number_of (field 14 4 b x3 r4 d3 l3) ∙ number-bytes 4 s.age_add t.ageAdd;
-      early = ap number_of (field 18 4 b x4 r5 d4 l4) ∙ number-bytes 4 s.early_data_limit t.earlyDataLimit;
-      secret = field secretAt (secretLength s.suite) b s.secret (s.name_length ∷ nm) d5 l5;
+      suite = ap number_of (field 0 2 b x0 r1 d0 l0) ∙ number_bytes 2 (suite_number s.suite) (omega (arith, suite_small s.suite));
+      issued = ap number_of (field 2 8 b x1 r2 d1 l1) ∙ number_bytes 8 s.issued_at t.issued_at;
+      lifetime = ap number_of (field 10 4 b x2 r3 d2 l2) ∙ number_bytes 4 s.lifetime t.lifetime;
+      age = ap number_of (field 14 4 b x3 r4 d3 l3) ∙ number_bytes 4 s.age_add t.age_add;
+      early = ap number_of (field 18 4 b x4 r5 d4 l4) ∙ number_bytes 4 s.early_data_limit t.early_data_limit;
+      secret = field secret_at (secret_length s.suite) b s.secret (s.name_length ∷ nm) d5 l5;
       count = sym (get_or-drop (name_at s.suite) b 0 0) ∙ ap (λ (x : List ℕ). get_or x 0 0) d6;
       name = d7;
       long = omega (arith, length-drop (name_at s.suite) b);
     }
 
-name-long : (s : SessionState) → Typed s → Fits s → length (take s.name_length s.name) ≡ s.name_length
-name-long s t f = length-take-le s.name_length s.name (omega (arith, t.name, f.named))
+name_long : (s : SessionState) → Typed s → Fits s → length (take s.name_length s.name) ≡ s.name_length
+name_long s t f = length-take-le s.name_length s.name (omega (arith, t.name, f.named))
 
-pub record-long : (s : SessionState) → Typed s → Fits s → length (encodeOf s) ≡ name_at s.suite + 1 + s.name_length
-record-long s t f = omega (arith, (parts s t).long, name-long s t f)
+pub record_long : (s : SessionState) → Typed s → Fits s → length (encode_of s) ≡ name_at s.suite + 1 + s.name_length
+record_long s t f = omega (arith, (parts s t).long, name_long s t f)
 
-pub state-laid : (s : SessionState) → Typed s → Fits s → Laid s.suite (encodeOf s)
-state-laid s t f =
+pub state_laid : (s : SessionState) → Typed s → Fits s → Laid s.suite (encode_of s)
+state_laid s t f =
     let p = parts s t in
     record {
-      long = omega (arith, record-long s t f);
+      long = omega (arith, record_long s t f);
       suited = p.suite;
       lived = omega (arith, p.lifetime, f.lived);
       expires = omega (arith, p.lifetime, f.expires);
       named = omega (arith, p.count, f.named);
-      whole = omega (arith, record-long s t f, p.count);
+      whole = omega (arith, record_long s t f, p.count);
     }
 
-name_back : (s : SessionState) → Typed s → Fits s → filled (take s.name_length s.name) nameLimit ≡ s.name
+name_back : (s : SessionState) → Typed s → Fits s → filled (take s.name_length s.name) name_limit ≡ s.name
 name_back s t f =
-    let e : nameLimit - length (take s.name_length s.name) ≡ nameLimit - s.name_length = omega (arith, name-long s t f) in
+    let e : name_limit - length (take s.name_length s.name) ≡ name_limit - s.name_length = omega (arith, name_long s t f) in
     rw (e, ← f.after) (take-append-drop s.name_length s.name)
 
-pub read_back : (s : SessionState) → Typed s → Fits s → read_of s.suite (encodeOf s) ≡ s
+pub read_back : (s : SessionState) → Typed s → Fits s → read_of s.suite (encode_of s) ≡ s
 unfolding read_of
 read_back s t f =
     let p = parts s t in
     rw (p.issued, p.lifetime, p.age, p.early, p.secret, p.count, p.name, name_back s t f)
 
 -- a record is laid out as one of its state's suite
-pub suited : (s : SessionState) → Typed s → Fits s → recordSuite (encodeOf s) ≡ Some s.suite
-suited s t f = laid-suite (encodeOf s) s.suite (state-laid s t f)
+pub suited : (s : SessionState) → Typed s → Fits s → record_suite (encode_of s) ≡ Some s.suite
+suited s t f = laid_suite (encode_of s) s.suite (state_laid s t f)
 
-pub back : (s : SessionState) → Typed s → Fits s → decodeOf (encodeOf s) ≡ Ok s
-unfolding decodeOf
+pub back : (s : SessionState) → Typed s → Fits s → decode_of (encode_of s) ≡ Ok s
+unfolding decode_of
 back s t f = rw (suited s t f, read_back s t f)
 
 module _ (b : List ℕ) (t : Suite) (small : Bytes b) (l : Laid t b) where
-  cut : (k m : ℕ) → k + m ≤ leastLength → (length (take m (drop k b)) ≡ m) × Bytes (take m (drop k b))
+  cut : (k m : ℕ) → k + m ≤ least_length → (length (take m (drop k b)) ≡ m) × Bytes (take m (drop k b))
   cut k m h =
       (length-take-le m (drop k b) (omega (arith, length-drop k b, l.long)), bytes_take m (drop k b) (bytes_drop k b small))
 
-  number-back : (k m : ℕ) → k + m ≤ leastLength → bytes_of m (number_of (take m (drop k b))) ≡ take m (drop k b)
-  number-back k m h = bytes-number m (take m (drop k b)) (cut k m h).0 (cut k m h).1
+  number_back : (k m : ℕ) → k + m ≤ least_length → bytes_of m (number_of (take m (drop k b))) ≡ take m (drop k b)
+  number_back k m h = bytes_number m (take m (drop k b)) (cut k m h).0 (cut k m h).1
 
-  number-under : (k m : ℕ) → k + m ≤ leastLength → number_of (take m (drop k b)) < 256 ^ m
-  number-under k m h = number-below m (take m (drop k b)) (cut k m h).0 (cut k m h).1
+  number_under : (k m : ℕ) → k + m ≤ least_length → number_of (take m (drop k b)) < 256 ^ m
+  number_under k m h = number_below m (take m (drop k b)) (cut k m h).0 (cut k m h).1
 
-  rest-long : length (drop (name_at t + 1) b) ≡ get_or b (name_at t) 0
-  rest-long = length-drop (name_at t + 1) b ∙ omega (arith, l.whole)
+  rest_long : length (drop (name_at t + 1) b) ≡ get_or b (name_at t) 0
+  rest_long = length-drop (name_at t + 1) b ∙ omega (arith, l.whole)
 
-  pub read-typed : Typed (read_of t b)
+  pub read_typed : Typed (read_of t b)
   unfolding read_of
-  read-typed =
+  read_typed =
       record {
-        issuedAt = number-under 2 8 (omega arith);
-        lifetime = number-under 10 4 (omega arith);
-        ageAdd = number-under 14 4 (omega arith);
-        earlyDataLimit = number-under 18 4 (omega arith);
-        secret = (cut secretAt (secretLength t) (omega arith)).0;
-        name = length-filled (drop (name_at t + 1) b) nameLimit (omega (arith, rest-long, l.named));
+        issued_at = number_under 2 8 (omega arith);
+        lifetime = number_under 10 4 (omega arith);
+        age_add = number_under 14 4 (omega arith);
+        early_data_limit = number_under 18 4 (omega arith);
+        secret = (cut secret_at (secret_length t) (omega arith)).0;
+        name = length_filled (drop (name_at t + 1) b) name_limit (omega (arith, rest_long, l.named));
       }
 
   pub read_fits : Fits (read_of t b)
   unfolding read_of
   read_fits =
-      let n = rest-long in
+      let n = rest_long in
       record {
         lived = l.lived;
         expires = l.expires;
         named = l.named;
-        after = drop_at (drop (name_at t + 1) b) (zeros (nameLimit - length (drop (name_at t + 1) b))) (get_or b (name_at t) 0) n ∙ rw n;
+        after = drop_at (drop (name_at t + 1) b) (zeros (name_limit - length (drop (name_at t + 1) b))) (get_or b (name_at t) 0) n ∙ rw n;
       }
 
-  pub read_whole : encodeOf (read_of t b) ≡ b
-  unfolding read_of encodeOf
+  pub read_whole : encode_of (read_of t b) ≡ b
+  unfolding read_of encode_of
   read_whole =
-      let name : take (get_or b (name_at t) 0) (filled (drop (name_at t + 1) b) nameLimit) ≡ drop (name_at t + 1) b =
-      take_at (drop (name_at t + 1) b) (zeros (nameLimit - length (drop (name_at t + 1) b))) (get_or b (name_at t) 0) rest-long in
+      let name : take (get_or b (name_at t) 0) (filled (drop (name_at t + 1) b) name_limit) ≡ drop (name_at t + 1) b =
+      take_at (drop (name_at t + 1) b) (zeros (name_limit - length (drop (name_at t + 1) b))) (get_or b (name_at t) 0) rest_long in
       let end : get_or b (name_at t) 0 ∷ drop (name_at t + 1) b ≡ drop (name_at t) b = sym (drop_more b (name_at t) 0 (omega (arith, l.whole))) in
-      let suite : bytes_of 2 (suiteNumber t) ≡ take 2 b = ap (bytes_of 2) (sym l.suited) ∙ number-back 0 2 (omega arith) in
+      let suite : bytes_of 2 (suite_number t) ≡ take 2 b = ap (bytes_of 2) (sym l.suited) ∙ number_back 0 2 (omega arith) in
       rw (
         suite,
-        number-back 2 8 (omega arith),
-        number-back 10 4 (omega arith),
-        number-back 14 4 (omega arith),
-        number-back 18 4 (omega arith),
+        number_back 2 8 (omega arith),
+        number_back 10 4 (omega arith),
+        number_back 14 4 (omega arith),
+        number_back 18 4 (omega arith),
         name,
         end,
-        part-rest secretAt (secretLength t) b,
-        part-rest 18 4 b,
-        part-rest 14 4 b,
-        part-rest 10 4 b,
-        part-rest 2 8 b,
+        part_rest secret_at (secret_length t) b,
+        part_rest 18 4 b,
+        part_rest 14 4 b,
+        part_rest 10 4 b,
+        part_rest 2 8 b,
       )
-      (part-rest 0 2 b)
+      (part_rest 0 2 b)
 
-pub forth : (b : List ℕ) (s : SessionState) → Bytes b → decodeOf b ≡ Ok s → Typed s × Fits s × (encodeOf s ≡ b)
-unfolding decodeOf
+pub forth : (b : List ℕ) (s : SessionState) → Bytes b → decode_of b ≡ Ok s → Typed s × Fits s × (encode_of s ≡ b)
+unfolding decode_of
 forth b s small e =
-    let p = read_some (recordSuite b) b s e in
-    let l : Laid p.0 b = suite-laid b p.0 p.1.0 in
+    let p = read_some (record_suite b) b s e in
+    let l : Laid p.0 b = suite_laid b p.0 p.1.0 in
     let is : read_of p.0 b ≡ s = p.1.1 in
-    subst (λ (x : SessionState). Typed x × Fits x × (encodeOf x ≡ b)) is
-    (read-typed b p.0 small l, read_fits b p.0 small l, read_whole b p.0 small l)
+    subst (λ (x : SessionState). Typed x × Fits x × (encode_of x ≡ b)) is
+    (read_typed b p.0 small l, read_fits b p.0 small l, read_whole b p.0 small l)
 
-test_read : (o : Option Suite) (b : List ℕ) → is_ok (readUnder o b) ≡ is_some o
+test_read : (o : Option Suite) (b : List ℕ) → is_ok (read_under o b) ≡ is_some o
 test_read (Some t) b = refl
 test_read None b = refl
 
-pub read-test : (b : List ℕ) → is_ok (decodeOf b) ≡ isRecord b
-unfolding decodeOf isRecord
-read-test b = test_read (recordSuite b) b
+pub read_test : (b : List ℕ) → is_ok (decode_of b) ≡ is_record b
+unfolding decode_of is_record
+read_test b = test_read (record_suite b) b
 
-some-suite : (o : Option Suite) → is_some o ≡ true → (t : Suite) × (o ≡ Some t)
-some-suite (Some t) e = (t, refl)
-some-suite None e = let z : ◌≡◌ {A = ℕ} 0 1 = cc in absurd (omega arith)
+some_suite : (o : Option Suite) → is_some o ≡ true → (t : Suite) × (o ≡ Some t)
+some_suite (Some t) e = (t, refl)
+some_suite None e = let z : ◌≡◌ {A = ℕ} 0 1 = cc in absurd (omega arith)
 
-pub test-laid : (b : List ℕ) → isRecord b ≡ true → (t : Suite) × Laid t b
-unfolding isRecord
-test-laid b e = let p = some-suite (recordSuite b) e in (p.0, suite-laid b p.0 p.1)
+pub test_laid : (b : List ℕ) → is_record b ≡ true → (t : Suite) × Laid t b
+unfolding is_record
+test_laid b e = let p = some_suite (record_suite b) e in (p.0, suite_laid b p.0 p.1)
 
-pub tells : (b : List ℕ) → Bytes b → Decides (isRecord b) (IsRecord b)
-unfolding isRecord
+pub tells : (b : List ℕ) → Bytes b → Decides (is_record b) (IsRecord b)
+unfolding is_record
 tells b small = (
   (λ e.
-      let p = test-laid b e in
-      record { state = read_of p.0 b; typed = read-typed b p.0 small p.1; fits = read_fits b p.0 small p.1; laid = read_whole b p.0 small p.1 }),
-  λ r. ap (λ (x : List ℕ). is_some (recordSuite x)) (sym r.laid) ∙ rw (laid-suite (encodeOf r.state) r.state.suite (state-laid r.state r.typed r.fits)),
+      let p = test_laid b e in
+      record { state = read_of p.0 b; typed = read_typed b p.0 small p.1; fits = read_fits b p.0 small p.1; laid = read_whole b p.0 small p.1 }),
+  λ r. ap (λ (x : List ℕ). is_some (record_suite x)) (sym r.laid) ∙ rw (laid_suite (encode_of r.state) r.state.suite (state_laid r.state r.typed r.fits)),
 )
 
-pub least : (b : List ℕ) → isRecord b ≡ true → leastLength ≤ length b
-least b e = (test-laid b e).1.long
+pub least : (b : List ℕ) → is_record b ≡ true → least_length ≤ length b
+least b e = (test_laid b e).1.long
 
-pub most : (b : List ℕ) → isRecord b ≡ true → length b ≤ mostLength
-most b e = omega (arith, (test-laid b e).1.whole, (test-laid b e).1.named)
+pub most : (b : List ℕ) → is_record b ≡ true → length b ≤ most_length
+most b e = omega (arith, (test_laid b e).1.whole, (test_laid b e).1.named)
 
 -- what reading answers, as its contract has it
-pub read-forth : (b : List ℕ) (r : Result SessionState Refusal) → Bytes b → r ≡ decodeOf b → IfOk r (λ s. Typed s × Fits s × (encodeOf s ≡ b))
-read-forth b (Ok s) small e = forth b s small (sym e)
-read-forth b (Err x) small e = tt
+pub read_forth : (b : List ℕ) (r : Result SessionState Refusal) → Bytes b → r ≡ decode_of b → IfOk r (λ s. Typed s × Fits s × (encode_of s ≡ b))
+read_forth b (Ok s) small e = forth b s small (sym e)
+read_forth b (Err x) small e = tt
 
-pub read_again : (b : List ℕ) (r : Result SessionState Refusal) → r ≡ decodeOf b → (s : SessionState) → Typed s → Fits s → encodeOf s ≡ b → r ≡ Ok s
-read_again b r e s t f is = e ∙ ap decodeOf (sym is) ∙ back s t f
+pub read_again : (b : List ℕ) (r : Result SessionState Refusal) → r ≡ decode_of b → (s : SessionState) → Typed s → Fits s → encode_of s ≡ b → r ≡ Ok s
+read_again b r e s t f is = e ∙ ap decode_of (sym is) ∙ back s t f
 
 -- a state whose fields are those that the bytes hold
-pub read_made : (t : Suite) (b : List ℕ) (issued life age early : ℕ) (secret name : List ℕ) (n : ℕ) → issued ≡ number_of (take 8 (drop 2 b)) → life ≡ number_of (take 4 (drop 10 b)) → age ≡ number_of (take 4 (drop 14 b)) → early ≡ number_of (take 4 (drop 18 b)) → secret ≡ take (secretLength t) (drop secretAt b) → name ≡ filled (drop (name_at t + 1) b) nameLimit → n ≡ get_or b (name_at t) 0 → ◌≡◌ {A = SessionState} (record { suite = t; issued_at = issued; lifetime = life; age_add = age; early_data_limit = early; secret = secret; name = name; name_length = n }) (read_of t b)
+pub read_made : (t : Suite) (b : List ℕ) (issued life age early : ℕ) (secret name : List ℕ) (n : ℕ) → issued ≡ number_of (take 8 (drop 2 b)) → life ≡ number_of (take 4 (drop 10 b)) → age ≡ number_of (take 4 (drop 14 b)) → early ≡ number_of (take 4 (drop 18 b)) → secret ≡ take (secret_length t) (drop secret_at b) → name ≡ filled (drop (name_at t + 1) b) name_limit → n ≡ get_or b (name_at t) 0 → ◌≡◌ {A = SessionState} (record { suite = t; issued_at = issued; lifetime = life; age_add = age; early_data_limit = early; secret = secret; name = name; name_length = n }) (read_of t b)
 unfolding read_of
 read_made t b issued life age early secret name n e1 e2 e3 e4 e5 e6 e7 = rw (e1, e2, e3, e4, e5, e6, e7)

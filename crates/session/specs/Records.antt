@@ -6,8 +6,8 @@ use Rattle.refusal.specs.declared.Refusal.{Refusal}
 use Rattle.refusal.specs.declared.Refusal.TheVariants.{ShortBuffer, NotARecord}
 use Rattle.session.specs.declared.Suite.{Suite}
 use Rattle.session.specs.declared.SessionState.{SessionState}
-use Rattle.session.specs.Limits.{secretLength, nameLimit, lifetimeLimit, secretAt, name_at, leastLength, mostLength}
-use Rattle.session.specs.Suites.{suiteNumber, suiteOf}
+use Rattle.session.specs.Limits.{secret_length, name_limit, lifetime_limit, secret_at, name_at, least_length, most_length}
+use Rattle.session.specs.Suites.{suite_number, suite_of}
 
 -- every number of the list is a byte
 abbrev pub Bytes : List ℕ → Type 0
@@ -19,33 +19,33 @@ blank [] = true
 blank (x ∷ xs) = x == 0 && blank xs
 
 -- a lifetime of at least a second and at most the limit
-abbrev pub lifetimeFits : ℕ → Bool
-lifetimeFits t = nat_le 1 t && nat_le t lifetimeLimit
+abbrev pub lifetime_fits : ℕ → Bool
+lifetime_fits t = nat_le 1 t && nat_le t lifetime_limit
 
 -- what the fields are by their types: numbers that fit their widths, and rows of their lengths
 pub record Typed (s : SessionState) : Type 0 where
-  pub issuedAt : s.issued_at < 2 ^ 64
+  pub issued_at : s.issued_at < 2 ^ 64
   pub lifetime : s.lifetime < 2 ^ 32
-  pub ageAdd : s.age_add < 2 ^ 32
-  pub earlyDataLimit : s.early_data_limit < 2 ^ 32
-  pub secret : length s.secret ≡ secretLength s.suite
-  pub name : length s.name ≡ nameLimit
+  pub age_add : s.age_add < 2 ^ 32
+  pub early_data_limit : s.early_data_limit < 2 ^ 32
+  pub secret : length s.secret ≡ secret_length s.suite
+  pub name : length s.name ≡ name_limit
 
 -- the fields make a record: a lifetime within its bounds, and a name that is no longer than its limit, with zeros after it
 pub record Fits (s : SessionState) : Type 0 where
   pub lived : 1 ≤ s.lifetime
-  pub expires : s.lifetime ≤ lifetimeLimit
-  pub named : s.name_length ≤ nameLimit
-  pub after : drop s.name_length s.name ≡ zeros (nameLimit - s.name_length)
+  pub expires : s.lifetime ≤ lifetime_limit
+  pub named : s.name_length ≤ name_limit
+  pub after : drop s.name_length s.name ≡ zeros (name_limit - s.name_length)
 
 -- the same as a test
-unfoldable pub fieldsFit : SessionState → Bool
-fieldsFit s = lifetimeFits s.lifetime && (nat_le s.name_length nameLimit && blank (drop s.name_length s.name))
+unfoldable pub fields_fit : SessionState → Bool
+fields_fit s = lifetime_fits s.lifetime && (nat_le s.name_length name_limit && blank (drop s.name_length s.name))
 
 -- the record of a state
-unfoldable pub encodeOf : SessionState → List ℕ
-encodeOf s =
-    bytes_of 2 (suiteNumber s.suite)
+unfoldable pub encode_of : SessionState → List ℕ
+encode_of s =
+    bytes_of 2 (suite_number s.suite)
     ++ (bytes_of 8 s.issued_at
     ++ (bytes_of 4 s.lifetime
     ++ (bytes_of 4 s.age_add
@@ -57,27 +57,27 @@ pub record IsRecord (b : List ℕ) : Type 0 where
   pub state : SessionState
   pub typed : Typed state
   pub fits : Fits state
-  pub laid : encodeOf state ≡ b
+  pub laid : encode_of state ≡ b
 
 -- the bytes after the suite are laid out as in a record: the lifetime and the name's length are within their bounds, and nothing follows the name
-unfoldable pub laidOut : Suite → List ℕ → Bool
-laidOut s b =
+unfoldable pub laid_out : Suite → List ℕ → Bool
+laid_out s b =
     nat_lt (name_at s) (length b)
-    && (lifetimeFits (number_of (take 4 (drop 10 b)))
-    && (nat_le (slice_index b (name_at s)) nameLimit && length b == name_at s + 1 + slice_index b (name_at s)))
+    && (lifetime_fits (number_of (take 4 (drop 10 b)))
+    && (nat_le (slice_index b (name_at s)) name_limit && length b == name_at s + 1 + slice_index b (name_at s)))
 
 -- the suite, where one is given and the bytes are laid out as a record of it
-abbrev pub whereLaidOut : Option Suite → List ℕ → Option Suite
-whereLaidOut (Some s) b = cond (laidOut s b) (Some s) None
-whereLaidOut None b = None
+abbrev pub where_laid_out : Option Suite → List ℕ → Option Suite
+where_laid_out (Some s) b = cond (laid_out s b) (Some s) None
+where_laid_out None b = None
 
 -- the suite of a record; none where the bytes are no record
-unfoldable pub recordSuite : List ℕ → Option Suite
-recordSuite b = cond (nat_lt (length b) leastLength) None (whereLaidOut (suiteOf (number_of (take 2 (drop 0 b)))) b)
+unfoldable pub record_suite : List ℕ → Option Suite
+record_suite b = cond (nat_lt (length b) least_length) None (where_laid_out (suite_of (number_of (take 2 (drop 0 b)))) b)
 
 -- whether the bytes are a record
-unfoldable pub isRecord : List ℕ → Bool
-isRecord b = is_some (recordSuite b)
+unfoldable pub is_record : List ℕ → Bool
+is_record b = is_some (record_suite b)
 
 -- the state in a record of a suite
 unfoldable pub read_of : Suite → List ℕ → SessionState
@@ -87,23 +87,23 @@ read_of s b = record {
   lifetime = number_of (take 4 (drop 10 b));
   age_add = number_of (take 4 (drop 14 b));
   early_data_limit = number_of (take 4 (drop 18 b));
-  secret = take (secretLength s) (drop secretAt b);
-  name = filled (drop (name_at s + 1) b) nameLimit;
+  secret = take (secret_length s) (drop secret_at b);
+  name = filled (drop (name_at s + 1) b) name_limit;
   name_length = slice_index b (name_at s);
 }
 
-abbrev pub readUnder : Option Suite → List ℕ → Result SessionState Refusal
-readUnder (Some s) b = Ok (read_of s b)
-readUnder None b = Err NotARecord
+abbrev pub read_under : Option Suite → List ℕ → Result SessionState Refusal
+read_under (Some s) b = Ok (read_of s b)
+read_under None b = Err NotARecord
 
 -- the state that bytes hold, where they are a record
-unfoldable pub decodeOf : List ℕ → Result SessionState Refusal
-decodeOf b = readUnder (recordSuite b) b
+unfoldable pub decode_of : List ℕ → Result SessionState Refusal
+decode_of b = read_under (record_suite b) b
 
 -- what writing a state into a buffer of so many bytes answers: the record's length, or why it is declined
 unfoldable pub written_of : SessionState → ℕ → Result ℕ Refusal
-written_of s room = cond (nat_lt room mostLength) (Err ShortBuffer) (cond (fieldsFit s) (Ok (length (encodeOf s))) (Err NotARecord))
+written_of s room = cond (nat_lt room most_length) (Err ShortBuffer) (cond (fields_fit s) (Ok (length (encode_of s))) (Err NotARecord))
 
 -- what the buffer then holds
-unfoldable pub bufferOf : SessionState → ℕ → List ℕ
-bufferOf s room = cond (is_ok (written_of s room)) (filled (encodeOf s) room) (zeros room)
+unfoldable pub buffer_of : SessionState → ℕ → List ℕ
+buffer_of s room = cond (is_ok (written_of s room)) (filled (encode_of s) room) (zeros room)

@@ -3,13 +3,13 @@ use Rattle.std.specs.Prelude.{ℕ, cond, Some, None, Option, ◌==◌}
 use Rattle.session.specs.declared.Suite.{Suite}
 use Rattle.session.specs.declared.Suite.TheVariants.{Aes128GcmSha256, Aes256GcmSha384, ChaCha20Poly1305Sha256}
 
-abbrev pub suiteNumber : Suite → ℕ
-suiteNumber Aes128GcmSha256 = 0x1301
-suiteNumber Aes256GcmSha384 = 0x1302
-suiteNumber ChaCha20Poly1305Sha256 = 0x1303
+abbrev pub suite_number : Suite → ℕ
+suite_number Aes128GcmSha256 = 0x1301
+suite_number Aes256GcmSha384 = 0x1302
+suite_number ChaCha20Poly1305Sha256 = 0x1303
 
 -- the suite that has a number
-abbrev pub suiteOf : ℕ → Option Suite
-suiteOf n =
+abbrev pub suite_of : ℕ → Option Suite
+suite_of n =
     cond (n == 0x1301) (Some Aes128GcmSha256)
     (cond (n == 0x1302) (Some Aes256GcmSha384) (cond (n == 0x1303) (Some ChaCha20Poly1305Sha256) None))

@@ -6,9 +6,9 @@
 
 ghost use Rattle.std.specs.Prelude.{◌≡◌, ◌+◌, ◌≤◌, length, take, IfOk, Some, Ok, Decides};
 ghost use Rattle.octets.specs.Buffers.{pasted};
-ghost use Rattle.session.specs.Limits.{secretLimit, secretLength, nameLimit, lifetimeLimit, leastLength, mostLength};
-ghost use Rattle.session.specs.Suites.{suiteNumber, suiteOf};
-ghost use Rattle.session.specs.Records.{lifetimeFits, blank, fieldsFit, Fits, Typed, encodeOf, laidOut, recordSuite, isRecord, IsRecord, read_of, decodeOf, written_of, bufferOf};
+ghost use Rattle.session.specs.Limits.{secret_limit, secret_length, name_limit, lifetime_limit, least_length, most_length};
+ghost use Rattle.session.specs.Suites.{suite_number, suite_of};
+ghost use Rattle.session.specs.Records.{lifetime_fits, blank, fields_fit, Fits, Typed, encode_of, laid_out, record_suite, is_record, IsRecord, read_of, decode_of, written_of, buffer_of};
 ghost use Rattle.session.specs.Laws.{RecordLaws, LifetimeExamples};
 
 use octets::{clear, get_u16, get_u32, get_u64, put_u16, put_u32, put_u64};
@@ -43,7 +43,7 @@ pub enum Suite {
 impl Suite {
     /// The suite's number in TLS.
     pub fn number(self) -> u16
-        ensures { result ≡ suiteNumber self }
+        ensures { result ≡ suite_number self }
     {
         match self {
             Suite::Aes128GcmSha256 => 0x1301,
@@ -54,7 +54,7 @@ impl Suite {
 
     /// The suite that has a number, if any has.
     pub fn from_number(number: u16) -> Option<Suite>
-        ensures { result ≡ suiteOf number }
+        ensures { result ≡ suite_of number }
     {
         match number {
             0x1301 => Some(Suite::Aes128GcmSha256),
@@ -66,7 +66,7 @@ impl Suite {
 
     /// The bytes of the secret of a session under the suite.
     pub fn secret_length(self) -> usize
-        ensures { result ≡ secretLength self }
+        ensures { result ≡ secret_length self }
     {
         SECRET_LENGTH // whatever the suite
     }
@@ -92,7 +92,7 @@ pub struct SessionState {
 
 // Whether a lifetime is one that a record may hold.
 fn lifetime_fits(seconds: u32) -> bool
-    ensures { result ≡ lifetimeFits seconds }
+    ensures { result ≡ lifetime_fits seconds }
 {
     1 <= seconds && seconds <= LIFETIME_LIMIT
 }
@@ -118,10 +118,10 @@ fn put_part(row: &mut [u8], at: usize, part: &[u8])
 }
 
 // Whether bytes of at least the shortest record's length are laid out as a record of the suite.
-#[tactic(auto, unfolding(crate::specs::Records::laidOut))]
+#[tactic(auto, unfolding(crate::specs::Records::laid_out))]
 fn is_laid_out(suite: Suite, bytes: &[u8]) -> bool
-    requires { leastLength ≤ length bytes.now }
-    ensures { result ≡ laidOut suite bytes.now }
+    requires { least_length ≤ length bytes.now }
+    ensures { result ≡ laid_out suite bytes.now }
 {
     let name_at = SECRET_AT + suite.secret_length();
     if bytes.len() <= name_at {
@@ -135,9 +135,9 @@ fn is_laid_out(suite: Suite, bytes: &[u8]) -> bool
 }
 
 // The suite of a record; none where the bytes are no record.
-#[tactic(auto, unfolding(crate::specs::Records::recordSuite))]
+#[tactic(auto, unfolding(crate::specs::Records::record_suite))]
 fn record_suite(bytes: &[u8]) -> Option<Suite>
-    ensures { result ≡ recordSuite bytes.now }
+    ensures { result ≡ record_suite bytes.now }
 {
     if bytes.len() < RECORD_LEAST {
         return None;
@@ -151,9 +151,9 @@ fn record_suite(bytes: &[u8]) -> Option<Suite>
 }
 
 /// Whether the bytes are the record of some session state.
-#[tactic(auto, using(crate::proofs::Trip::tells), unfolding(crate::specs::Records::isRecord))]
+#[tactic(auto, using(crate::proofs::Trip::tells), unfolding(crate::specs::Records::is_record))]
 pub fn is_record(bytes: &[u8]) -> bool
-    ensures value { result ≡ isRecord bytes.now }
+    ensures value { result ≡ is_record bytes.now }
     ensures decides { Decides result (IsRecord bytes.now) }
 {
     record_suite(bytes).is_some()
@@ -161,7 +161,7 @@ pub fn is_record(bytes: &[u8]) -> bool
 
 // The state in a record of a suite.
 fn state_of(suite: Suite, bytes: &[u8]) -> SessionState
-    requires { recordSuite bytes.now ≡ Some suite }
+    requires { record_suite bytes.now ≡ Some suite }
     ensures { result ≡ read_of suite bytes.now }
 {
     let name_at = SECRET_AT + suite.secret_length();
@@ -183,11 +183,11 @@ fn state_of(suite: Suite, bytes: &[u8]) -> SessionState
 }
 
 /// The state that a record holds. All other bytes are refused.
-#[tactic(auto, using(crate::proofs::Trip::suited), unfolding(crate::specs::Records::decodeOf))]
+#[tactic(auto, using(crate::proofs::Trip::suited), unfolding(crate::specs::Records::decode_of))]
 pub fn read(bytes: &[u8]) -> Result<SessionState, Refusal>
-    ensures value { result ≡ decodeOf bytes.now }
-    ensures forth { IfOk result (λ s. Typed s × Fits s × (encodeOf s ≡ bytes.now)) }
-    ensures back { (s : SessionState) → Typed s → Fits s → encodeOf s ≡ bytes.now → result ≡ Ok s }
+    ensures value { result ≡ decode_of bytes.now }
+    ensures forth { IfOk result (λ s. Typed s × Fits s × (encode_of s ≡ bytes.now)) }
+    ensures back { (s : SessionState) → Typed s → Fits s → encode_of s ≡ bytes.now → result ≡ Ok s }
 {
     match record_suite(bytes) {
         Some(suite) => Ok(state_of(suite, bytes)),
@@ -197,9 +197,9 @@ pub fn read(bytes: &[u8]) -> Result<SessionState, Refusal>
 
 impl SessionState {
     /// Whether the fields make a record.
-    #[tactic(auto, using(crate::proofs::Fitting::fields_fit), unfolding(crate::specs::Records::fieldsFit))]
+    #[tactic(auto, using(crate::proofs::Fitting::fields_fit_is), unfolding(crate::specs::Records::fields_fit))]
     pub fn fits(&self) -> bool
-        ensures value { result ≡ fieldsFit self.now }
+        ensures value { result ≡ fields_fit self.now }
         ensures decides { Decides result (Fits self.now) }
     {
         let n = self.name_length as usize;
@@ -211,11 +211,11 @@ impl SessionState {
 
     /// Writes the record from the buffer's start, with zeros after it, and answers its length.
     /// A buffer shorter than the longest record is refused, then fields that make no record; the buffer then holds zeros.
-    #[tactic(auto, unfolding(crate::specs::Records::written_of, crate::specs::Records::bufferOf))]
+    #[tactic(auto, unfolding(crate::specs::Records::written_of, crate::specs::Records::buffer_of))]
     pub fn write(&self, out: &mut [u8]) -> Result<usize, Refusal>
         ensures value { result ≡ written_of self.now (length out.old) }
-        ensures out { out.new ≡ bufferOf self.now (length out.old) }
-        ensures back { IfOk result (λ n. decodeOf (take n out.new) ≡ Ok self.now) }
+        ensures out { out.new ≡ buffer_of self.now (length out.old) }
+        ensures back { IfOk result (λ n. decode_of (take n out.new) ≡ Ok self.now) }
     {
         clear(out);
         if out.len() < RECORD_LIMIT {
@@ -240,11 +240,11 @@ impl SessionState {
 
 /// The lengths of a record and of its parts, and the longest lifetime.
 pub fn limits_stand()
-    ensures least { RECORD_LEAST ≡ leastLength }
-    ensures most { RECORD_LIMIT ≡ mostLength }
-    ensures secret { SECRET_LENGTH ≡ secretLimit }
-    ensures name { NAME_LIMIT ≡ nameLimit }
-    ensures lifetime { LIFETIME_LIMIT ≡ lifetimeLimit }
+    ensures least { RECORD_LEAST ≡ least_length }
+    ensures most { RECORD_LIMIT ≡ most_length }
+    ensures secret { SECRET_LENGTH ≡ secret_limit }
+    ensures name { NAME_LIMIT ≡ name_limit }
+    ensures lifetime { LIFETIME_LIMIT ≡ lifetime_limit }
 {}
 
 /// States and records determine each other, and the lengths of a record.

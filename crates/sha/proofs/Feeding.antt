@@ -3,9 +3,9 @@ use Rattle.std.proofs.Common.{◌≡◌, ℕ, suc, ◌+◌, ◌-◌, ◌*◌, �
 use borrow.Rule.Slice.PartMut.{put_mid}
 use Rattle.std.proofs.lemmas.List.{drop-append-le, take_all, drop_all, append_assoc, take-append-drop, take_rest, take-replicate}
 use Rattle.std.proofs.lemmas.Slice.{take-put_mid}
-use Rattle.sha.specs.Digest.{block_at, compressed, absorbed, startWords, gap, eightBytes, padded}
+use Rattle.sha.specs.Digest.{block_at, compressed, absorbed, start_words, gap, eight_bytes, padded}
 use Rattle.sha.specs.Hasher.{Fed}
-use Rattle.sha.proofs.Absorbed.{absorbed-left, absorbed-right}
+use Rattle.sha.proofs.Absorbed.{absorbed_left, absorbed_right}
 
 -- the count tells how much of a block is begun
 pub begun : (m s t : List ℕ) (n : ℕ) → Fed m s t n → n % 64 ≡ length m % 64
@@ -26,7 +26,7 @@ kept m p s t n b k f wide is room =
     let u : take (length m % 64) t ≡ drop (64 * (length m / 64)) m = f.rest in
     let i : length m % 64 ≡ b = omega arith in
     record {
-      hashed = rw (q, absorbed-left startWords m p (length m / 64) d) f.hashed;
+      hashed = rw (q, absorbed_left start_words m p (length m / 64) d) f.hashed;
       rest = rw (q, r, take-put_mid b k t p (b + length p) refl (omega arith), drop-append-le (64 * (length m / 64)) m p d, ← u, i);
       count = counted m p s t n f;
     }
@@ -46,16 +46,16 @@ completed m p s t n k tail state f some size full is done =
     let w : length (drop (64 * (length m / 64)) m ++ p) ≤ 64 = simp (length-append, length-drop) (omega arith) in
     let over : drop (64 * suc (length m / 64)) (m ++ p) ≡ [] = drop_all (64 * suc (length m / 64)) (m ++ p) (omega arith) in
     record {
-      hashed = rw (q, absorbed-left startWords m p (length m / 64) d, drop-append-le (64 * (length m / 64)) m p d, take_all 64 (drop (64 * (length m / 64)) m ++ p) w, ← x, ← f.hashed) done;
+      hashed = rw (q, absorbed_left start_words m p (length m / 64) d, drop-append-le (64 * (length m / 64)) m p d, take_all 64 (drop (64 * (length m / 64)) m ++ p) w, ← x, ← f.hashed) done;
       rest = rw (q, r, over);
       count = rw (← size) (counted m p s t n f);
     }
 
 -- whole blocks after whole blocks
-pub joined-blocks : (m p s t : List ℕ) (n : ℕ) (state : List ℕ) → Fed m s t n → n % 64 ≡ 0 → length p % 64 ≡ 0
+pub joined_blocks : (m p s t : List ℕ) (n : ℕ) (state : List ℕ) → Fed m s t n → n % 64 ≡ 0 → length p % 64 ≡ 0
     → state ≡ absorbed s p (length p / 64)
     → Fed (m ++ p) state t ((n + length p) % 2 ^ 64)
-joined-blocks m p s t n state f none full done =
+joined_blocks m p s t n state f none full done =
     let e : n % 64 ≡ length m % 64 = begun m s t n f in
     let l : length (m ++ p) ≡ length m + length p = length-append m p in
     let q : length (m ++ p) / 64 ≡ length m / 64 + length p / 64 = omega arith in
@@ -63,21 +63,21 @@ joined-blocks m p s t n state f none full done =
     let w : length m ≡ 64 * (length m / 64) = omega arith in
     let over : drop (64 * (length (m ++ p) / 64)) (m ++ p) ≡ [] = drop_all (64 * (length (m ++ p) / 64)) (m ++ p) (omega arith) in
     record {
-      hashed = rw (q, absorbed-right startWords m p (length m / 64) (length p / 64) w, ← f.hashed) done;
+      hashed = rw (q, absorbed_right start_words m p (length m / 64) (length p / 64) w, ← f.hashed) done;
       rest = rw (over, r);
       count = counted m p s t n f;
     }
 
 -- a part cut into three, in the terms of the slices taken
-pub three-parts : (m p : List ℕ) (n w : ℕ) (r : List ℕ) → r ≡ take (length p - n) (drop n p)
+pub three_parts : (m p : List ℕ) (n w : ℕ) (r : List ℕ) → r ≡ take (length p - n) (drop n p)
     → ((m ++ take n p) ++ take (w - 0) r) ++ take (length r - w) (drop w r) ≡ m ++ p
-three-parts m p n w r e =
+three_parts m p n w r e =
     let z : w - 0 ≡ w = omega arith in
     let d : r ≡ drop n p = e ∙ take_rest p n in
     rw (z, take_rest r w, append_assoc (m ++ take n p) (take w r) (drop w r), take-append-drop w r, d, append_assoc m (take n p) (drop n p), take-append-drop n p)
 
 -- the padding, in the terms of the slices taken: t counts the bytes of m
-pub padding : (m : List ℕ) (t : ℕ) (bits : List ℕ) → t ≡ length m % 2 ^ 64 → bits ≡ eightBytes ((t * 8) % 2 ^ 64)
+pub padding : (m : List ℕ) (t : ℕ) (bits : List ℕ) → t ≡ length m % 2 ^ 64 → bits ≡ eight_bytes ((t * 8) % 2 ^ 64)
     → (m ++ take (((119 - t % 64) % 64 + 1) - 0) (set (replicate 64 0) 0 128)) ++ bits ≡ padded m
 unfolding padded gap
 padding m t bits e is =

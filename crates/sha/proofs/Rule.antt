@@ -1,14 +1,14 @@
 -- The rule of the two tables, tested at all entries along the primes.
 use Rattle.std.proofs.Common.{◌≡◌, ℕ, zero, suc, ◌+◌, ◌*◌, ◌^◌, ◌<◌, Bool, true, false, T, eqb, ltb, leb, List, [], ◌∷◌, length, get_or, refl, le_of_suc-le-suc, not-suc-le-zero, eqb→eq, ltb→lt, leb→le}
 use Rattle.std.proofs.lemmas.List.FromFn.{fill_by_all}
-use Rattle.sha.specs.Roots.{undivided, isPrime, primeFrom, primeAfter, primeOf, rootFrom, fraction, Rooted}
-use Rattle.sha.specs.Digest.{roundWord, startWord, startWords}
+use Rattle.sha.specs.Roots.{undivided, is_prime, prime_from, prime_after, prime_of, root_from, fraction, Rooted}
+use Rattle.sha.specs.Digest.{round_word, start_word, start_words}
 
-abbrev pub roundTable : List ℕ
-roundTable = 0x428a2f98 ∷ 0x71374491 ∷ 0xb5c0fbcf ∷ 0xe9b5dba5 ∷ 0x3956c25b ∷ 0x59f111f1 ∷ 0x923f82a4 ∷ 0xab1c5ed5 ∷ 0xd807aa98 ∷ 0x12835b01 ∷ 0x243185be ∷ 0x550c7dc3 ∷ 0x72be5d74 ∷ 0x80deb1fe ∷ 0x9bdc06a7 ∷ 0xc19bf174 ∷ 0xe49b69c1 ∷ 0xefbe4786 ∷ 0x0fc19dc6 ∷ 0x240ca1cc ∷ 0x2de92c6f ∷ 0x4a7484aa ∷ 0x5cb0a9dc ∷ 0x76f988da ∷ 0x983e5152 ∷ 0xa831c66d ∷ 0xb00327c8 ∷ 0xbf597fc7 ∷ 0xc6e00bf3 ∷ 0xd5a79147 ∷ 0x06ca6351 ∷ 0x14292967 ∷ 0x27b70a85 ∷ 0x2e1b2138 ∷ 0x4d2c6dfc ∷ 0x53380d13 ∷ 0x650a7354 ∷ 0x766a0abb ∷ 0x81c2c92e ∷ 0x92722c85 ∷ 0xa2bfe8a1 ∷ 0xa81a664b ∷ 0xc24b8b70 ∷ 0xc76c51a3 ∷ 0xd192e819 ∷ 0xd6990624 ∷ 0xf40e3585 ∷ 0x106aa070 ∷ 0x19a4c116 ∷ 0x1e376c08 ∷ 0x2748774c ∷ 0x34b0bcb5 ∷ 0x391c0cb3 ∷ 0x4ed8aa4a ∷ 0x5b9cca4f ∷ 0x682e6ff3 ∷ 0x748f82ee ∷ 0x78a5636f ∷ 0x84c87814 ∷ 0x8cc70208 ∷ 0x90befffa ∷ 0xa4506ceb ∷ 0xbef9a3f7 ∷ 0xc67178f2 ∷ []
+abbrev pub round_table : List ℕ
+round_table = 0x428a2f98 ∷ 0x71374491 ∷ 0xb5c0fbcf ∷ 0xe9b5dba5 ∷ 0x3956c25b ∷ 0x59f111f1 ∷ 0x923f82a4 ∷ 0xab1c5ed5 ∷ 0xd807aa98 ∷ 0x12835b01 ∷ 0x243185be ∷ 0x550c7dc3 ∷ 0x72be5d74 ∷ 0x80deb1fe ∷ 0x9bdc06a7 ∷ 0xc19bf174 ∷ 0xe49b69c1 ∷ 0xefbe4786 ∷ 0x0fc19dc6 ∷ 0x240ca1cc ∷ 0x2de92c6f ∷ 0x4a7484aa ∷ 0x5cb0a9dc ∷ 0x76f988da ∷ 0x983e5152 ∷ 0xa831c66d ∷ 0xb00327c8 ∷ 0xbf597fc7 ∷ 0xc6e00bf3 ∷ 0xd5a79147 ∷ 0x06ca6351 ∷ 0x14292967 ∷ 0x27b70a85 ∷ 0x2e1b2138 ∷ 0x4d2c6dfc ∷ 0x53380d13 ∷ 0x650a7354 ∷ 0x766a0abb ∷ 0x81c2c92e ∷ 0x92722c85 ∷ 0xa2bfe8a1 ∷ 0xa81a664b ∷ 0xc24b8b70 ∷ 0xc76c51a3 ∷ 0xd192e819 ∷ 0xd6990624 ∷ 0xf40e3585 ∷ 0x106aa070 ∷ 0x19a4c116 ∷ 0x1e376c08 ∷ 0x2748774c ∷ 0x34b0bcb5 ∷ 0x391c0cb3 ∷ 0x4ed8aa4a ∷ 0x5b9cca4f ∷ 0x682e6ff3 ∷ 0x748f82ee ∷ 0x78a5636f ∷ 0x84c87814 ∷ 0x8cc70208 ∷ 0x90befffa ∷ 0xa4506ceb ∷ 0xbef9a3f7 ∷ 0xc67178f2 ∷ []
 
-abbrev pub startTable : List ℕ
-startTable = 0x6a09e667 ∷ 0xbb67ae85 ∷ 0x3c6ef372 ∷ 0xa54ff53a ∷ 0x510e527f ∷ 0x9b05688c ∷ 0x1f83d9ab ∷ 0x5be0cd19 ∷ []
+abbrev pub start_table : List ℕ
+start_table = 0x6a09e667 ∷ 0xbb67ae85 ∷ 0x3c6ef372 ∷ 0xa54ff53a ∷ 0x510e527f ∷ 0x9b05688c ∷ 0x1f83d9ab ∷ 0x5be0cd19 ∷ []
 
 both : Bool → Bool → Bool
 both true b = b
@@ -25,7 +25,7 @@ both_right true b t = t
 both_right false b t = absurd t
 
 root : ℕ → ℕ → ℕ
-root e q = rootFrom e (q * 2 ^ (32 * e)) 0 36
+root e q = root_from e (q * 2 ^ (32 * e)) 0 36
 
 -- x is the fraction of the e-th root of q, and that root is a whole root
 test : ℕ → ℕ → ℕ → Bool
@@ -34,50 +34,50 @@ test e q x = both (eqb x (fraction e q)) (both (leb (root e q ^ e) (q * 2 ^ (32 
 -- the entries pass at the primes from p on
 walk : ℕ → ℕ → List ℕ → Bool
 walk e p [] = true
-walk e p (x ∷ xs) = both (test e p x) (walk e (primeFrom (p + 1) p) xs)
+walk e p (x ∷ xs) = both (test e p x) (walk e (prime_from (p + 1) p) xs)
 
-from : (e p : ℕ) (xs : List ℕ) → T (walk e p xs) → (k : ℕ) → k < length xs → T (test e (primeAfter p k) (get_or xs k 0))
-unfolding walk primeAfter
+from : (e p : ℕ) (xs : List ℕ) → T (walk e p xs) → (k : ℕ) → k < length xs → T (test e (prime_after p k) (get_or xs k 0))
+unfolding walk prime_after
 from e p [] t k h = absurd (not-suc-le-zero h)
-from e p (x ∷ xs) t zero h = both_left (test e p x) (walk e (primeFrom (p + 1) p) xs) t
+from e p (x ∷ xs) t zero h = both_left (test e p x) (walk e (prime_from (p + 1) p) xs) t
 from e p (x ∷ xs) t (suc k) h =
-    from e (primeFrom (p + 1) p) xs (both_right (test e p x) (walk e (primeFrom (p + 1) p) xs) t) k (le_of_suc-le-suc h)
+    from e (prime_from (p + 1) p) xs (both_right (test e p x) (walk e (prime_from (p + 1) p) xs) t) k (le_of_suc-le-suc h)
 
 -- the computed tests
-all-rounds : T (walk 3 2 roundTable)
-unfolding both walk test root fraction rootFrom primeFrom isPrime undivided
-all-rounds = tt
+all_rounds : T (walk 3 2 round_table)
+unfolding both walk test root fraction root_from prime_from is_prime undivided
+all_rounds = tt
 
-all-starts : T (walk 2 2 startTable)
-unfolding both walk test root fraction rootFrom primeFrom isPrime undivided
-all-starts = tt
+all_starts : T (walk 2 2 start_table)
+unfolding both walk test root fraction root_from prime_from is_prime undivided
+all_starts = tt
 
-rooted-test : (e q x : ℕ) → T (test e q x) → Rooted e q x
+rooted_test : (e q x : ℕ) → T (test e q x) → Rooted e q x
 unfolding test root fraction
-rooted-test e q x t =
+rooted_test e q x t =
     let u = both_right _ _ t in
     record { root = root e q; low = leb→le _ _ (both_left _ _ u); high = ltb→lt _ _ (both_right _ _ u); is = eqb→eq _ _ (both_left _ _ t) }
 
-equal-test : (e q x : ℕ) → T (test e q x) → x ≡ fraction e q
+equal_test : (e q x : ℕ) → T (test e q x) → x ≡ fraction e q
 unfolding test
-equal-test e q x t = eqb→eq x (fraction e q) (both_left _ _ t)
+equal_test e q x t = eqb→eq x (fraction e q) (both_left _ _ t)
 
-pub round-equal : (k : ℕ) → k < 64 → get_or roundTable k 0 ≡ roundWord k
-unfolding roundWord primeOf
-round-equal k h = equal-test 3 (primeAfter 2 k) (get_or roundTable k 0) (from 3 2 roundTable all-rounds k h)
+pub round_equal : (k : ℕ) → k < 64 → get_or round_table k 0 ≡ round_word k
+unfolding round_word prime_of
+round_equal k h = equal_test 3 (prime_after 2 k) (get_or round_table k 0) (from 3 2 round_table all_rounds k h)
 
-pub round-rooted : (k : ℕ) → k < 64 → Rooted 3 (primeOf k) (get_or roundTable k 0)
-unfolding primeOf
-round-rooted k h = rooted-test 3 (primeAfter 2 k) (get_or roundTable k 0) (from 3 2 roundTable all-rounds k h)
+pub round_rooted : (k : ℕ) → k < 64 → Rooted 3 (prime_of k) (get_or round_table k 0)
+unfolding prime_of
+round_rooted k h = rooted_test 3 (prime_after 2 k) (get_or round_table k 0) (from 3 2 round_table all_rounds k h)
 
-start-equal : (k : ℕ) → k < 8 → get_or startTable k 0 ≡ startWord k
-unfolding startWord primeOf
-start-equal k h = equal-test 2 (primeAfter 2 k) (get_or startTable k 0) (from 2 2 startTable all-starts k h)
+start_equal : (k : ℕ) → k < 8 → get_or start_table k 0 ≡ start_word k
+unfolding start_word prime_of
+start_equal k h = equal_test 2 (prime_after 2 k) (get_or start_table k 0) (from 2 2 start_table all_starts k h)
 
-pub start-rooted : (k : ℕ) → k < 8 → Rooted 2 (primeOf k) (startWord k)
-unfolding primeOf
-start-rooted k h = rw (← start-equal k h) (rooted-test 2 (primeAfter 2 k) (get_or startTable k 0) (from 2 2 startTable all-starts k h))
+pub start_rooted : (k : ℕ) → k < 8 → Rooted 2 (prime_of k) (start_word k)
+unfolding prime_of
+start_rooted k h = rw (← start_equal k h) (rooted_test 2 (prime_after 2 k) (get_or start_table k 0) (from 2 2 start_table all_starts k h))
 
-pub start-table : startTable ≡ startWords
-unfolding startWords
-start-table = fill_by_all startWord startTable 8 0 refl start-equal
+pub start_table_is : start_table ≡ start_words
+unfolding start_words
+start_table_is = fill_by_all start_word start_table 8 0 refl start_equal

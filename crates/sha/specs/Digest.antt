@@ -1,7 +1,7 @@
 -- SHA-256, as FIPS 180-4 gives it. A word is a number below 2 ^ 32, a message a list of bytes.
 use Rattle.std.specs.Prelude.{ℕ, zero, suc, ◌+◌, ◌-◌, ◌*◌, ◌/◌, ◌%◌, ◌^◌, List, [], ◌∷◌, ◌++◌, map, length, take, drop, replicate, bit_and, bit_or, bit_xor, slice_index, slice_index_or}
 use Rattle.std.specs.List.{range_with_len, flat_map}
-use Rattle.sha.specs.Roots.{primeOf, fraction}
+use Rattle.sha.specs.Roots.{prime_of, fraction}
 
 -- addition of words
 unfoldable pub plus : ℕ → ℕ → ℕ
@@ -20,29 +20,29 @@ unfoldable pub majority : ℕ → ℕ → ℕ → ℕ
 majority x y z = bit_xor (bit_xor (bit_and x y) (bit_and x z)) (bit_and y z)
 
 -- the four functions that the standard writes with a sigma, large and small
-unfoldable pub bigSigma0 : ℕ → ℕ
-bigSigma0 x = bit_xor (bit_xor (rotr 2 x) (rotr 13 x)) (rotr 22 x)
+unfoldable pub big_sigma0 : ℕ → ℕ
+big_sigma0 x = bit_xor (bit_xor (rotr 2 x) (rotr 13 x)) (rotr 22 x)
 
-unfoldable pub bigSigma1 : ℕ → ℕ
-bigSigma1 x = bit_xor (bit_xor (rotr 6 x) (rotr 11 x)) (rotr 25 x)
+unfoldable pub big_sigma1 : ℕ → ℕ
+big_sigma1 x = bit_xor (bit_xor (rotr 6 x) (rotr 11 x)) (rotr 25 x)
 
-unfoldable pub smallSigma0 : ℕ → ℕ
-smallSigma0 x = bit_xor (bit_xor (rotr 7 x) (rotr 18 x)) (x / 2 ^ 3)
+unfoldable pub small_sigma0 : ℕ → ℕ
+small_sigma0 x = bit_xor (bit_xor (rotr 7 x) (rotr 18 x)) (x / 2 ^ 3)
 
-unfoldable pub smallSigma1 : ℕ → ℕ
-smallSigma1 x = bit_xor (bit_xor (rotr 17 x) (rotr 19 x)) (x / 2 ^ 10)
+unfoldable pub small_sigma1 : ℕ → ℕ
+small_sigma1 x = bit_xor (bit_xor (rotr 17 x) (rotr 19 x)) (x / 2 ^ 10)
 
 -- K of round t: from the cube root of the t-th prime
-unfoldable pub roundWord : ℕ → ℕ
-roundWord t = fraction 3 (primeOf t)
+unfoldable pub round_word : ℕ → ℕ
+round_word t = fraction 3 (prime_of t)
 
 -- word i of the initial hash value: from the square root of the i-th prime
-unfoldable pub startWord : ℕ → ℕ
-startWord i = fraction 2 (primeOf i)
+unfoldable pub start_word : ℕ → ℕ
+start_word i = fraction 2 (prime_of i)
 
 -- H(0)
-unfoldable pub startWords : List ℕ
-startWords = map startWord (range_with_len 0 8)
+unfoldable pub start_words : List ℕ
+start_words = map start_word (range_with_len 0 8)
 
 -- word i of a block, big-endian
 unfoldable pub word_of : List ℕ → ℕ → ℕ
@@ -50,7 +50,7 @@ word_of b i = slice_index b (4 * i) * 16777216 + slice_index b (4 * i + 1) * 655
 
 -- W of round n + 16, from the words before it
 unfoldable pub next_of : List ℕ → ℕ → ℕ
-next_of w n = plus (plus (plus (smallSigma1 (slice_index w (n + 14))) (slice_index w (n + 9))) (smallSigma0 (slice_index w (n + 1)))) (slice_index w n)
+next_of w n = plus (plus (plus (small_sigma1 (slice_index w (n + 14))) (slice_index w (n + 9))) (small_sigma0 (slice_index w (n + 1)))) (slice_index w n)
 
 -- the first 16 + n words of a block's message schedule
 unfoldable pub scheduled : List ℕ → ℕ → List ℕ
@@ -59,14 +59,14 @@ scheduled b (suc n) = let w : List ℕ = scheduled b n in w ++ next_of w n ∷ [
 
 -- T1 and T2 of a round with K = k and W = w
 unfoldable pub first_sum : ℕ → ℕ → ℕ → ℕ → ℕ → ℕ → ℕ
-first_sum e f g h k w = plus (plus (plus (plus h (bigSigma1 e)) (choose e f g)) k) w
+first_sum e f g h k w = plus (plus (plus (plus h (big_sigma1 e)) (choose e f g)) k) w
 
-unfoldable pub secondSum : ℕ → ℕ → ℕ → ℕ
-secondSum a b c = plus (bigSigma0 a) (majority a b c)
+unfoldable pub second_sum : ℕ → ℕ → ℕ → ℕ
+second_sum a b c = plus (big_sigma0 a) (majority a b c)
 
 -- such a round, on the working variables a .. h in this order
-unfoldable pub roundOf : ℕ → ℕ → List ℕ → List ℕ
-roundOf k w s =
+unfoldable pub round_of : ℕ → ℕ → List ℕ → List ℕ
+round_of k w s =
     let a : ℕ = slice_index_or s 0 0 in
     let b : ℕ = slice_index_or s 1 0 in
     let c : ℕ = slice_index_or s 2 0 in
@@ -76,13 +76,13 @@ roundOf k w s =
     let g : ℕ = slice_index_or s 6 0 in
     let h : ℕ = slice_index_or s 7 0 in
     let t1 : ℕ = first_sum e f g h k w in
-    let t2 : ℕ = secondSum a b c in
+    let t2 : ℕ = second_sum a b c in
     plus t1 t2 ∷ a ∷ b ∷ c ∷ plus d t1 ∷ e ∷ f ∷ g ∷ []
 
 -- the first n rounds, over the schedule w
-unfoldable pub roundsOf : List ℕ → ℕ → List ℕ → List ℕ
-roundsOf w zero s = s
-roundsOf w (suc n) s = roundOf (roundWord n) (slice_index w n) (roundsOf w n s)
+unfoldable pub rounds_of : List ℕ → ℕ → List ℕ → List ℕ
+rounds_of w zero s = s
+rounds_of w (suc n) s = round_of (round_word n) (slice_index w n) (rounds_of w n s)
 
 -- two hash values added, word by word
 unfoldable pub added : List ℕ → List ℕ → List ℕ
@@ -92,7 +92,7 @@ added (x ∷ xs) (y ∷ ys) = plus x y ∷ added xs ys
 
 -- H(i) from H(i - 1) and block i
 unfoldable pub compressed : List ℕ → List ℕ → List ℕ
-compressed h b = added h (roundsOf (scheduled b 48) 64 h)
+compressed h b = added h (rounds_of (scheduled b 48) 64 h)
 
 -- block i of a message, counted from 0
 unfoldable pub block_at : List ℕ → ℕ → List ℕ
@@ -108,24 +108,24 @@ unfoldable pub gap : ℕ → ℕ
 gap n = (119 - n % 64) % 64
 
 -- the eight bytes of a 64-bit number, big-endian
-unfoldable pub eightBytes : ℕ → List ℕ
-eightBytes v =
+unfoldable pub eight_bytes : ℕ → List ℕ
+eight_bytes v =
     (v / 2 ^ 56 % 256) ∷ (v / 2 ^ 48 % 256) ∷ (v / 2 ^ 40 % 256) ∷ (v / 2 ^ 32 % 256)
     ∷ (v / 2 ^ 24 % 256) ∷ (v / 2 ^ 16 % 256) ∷ (v / 2 ^ 8 % 256) ∷ (v % 256) ∷ []
 
 -- the padded message: m, the bit 1, zeros, and the length of m in bits. The standard takes messages below 2 ^ 64 bits;
 -- of a longer one the length is taken modulo 2 ^ 64.
 unfoldable pub padded : List ℕ → List ℕ
-padded m = m ++ (0x80 ∷ replicate (gap (length m)) 0) ++ eightBytes (8 * length m % 2 ^ 64)
+padded m = m ++ (0x80 ∷ replicate (gap (length m)) 0) ++ eight_bytes (8 * length m % 2 ^ 64)
 
 -- the hash value after all blocks of the padded message
-unfoldable pub lastValue : List ℕ → List ℕ
-lastValue m = let p : List ℕ = padded m in absorbed startWords p (length p / 64)
+unfoldable pub last_value : List ℕ → List ℕ
+last_value m = let p : List ℕ = padded m in absorbed start_words p (length p / 64)
 
 -- a word's four bytes, big-endian
-unfoldable pub fourBytes : ℕ → List ℕ
-fourBytes w = (w / 2 ^ 24 % 256) ∷ (w / 2 ^ 16 % 256) ∷ (w / 2 ^ 8 % 256) ∷ (w % 256) ∷ []
+unfoldable pub four_bytes : ℕ → List ℕ
+four_bytes w = (w / 2 ^ 24 % 256) ∷ (w / 2 ^ 16 % 256) ∷ (w / 2 ^ 8 % 256) ∷ (w % 256) ∷ []
 
 -- the digest of a message: its last hash value as bytes
 unfoldable pub sha256 : List ℕ → List ℕ
-sha256 m = flat_map fourBytes (lastValue m)
+sha256 m = flat_map four_bytes (last_value m)

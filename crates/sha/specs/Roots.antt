@@ -8,33 +8,33 @@ undivided n d zero = true
 undivided n d (suc left) = cond (n % d == 0) false (undivided n (d + 1) left)
 
 -- n is a prime: none of 2 .. n - 1 divides it
-unfoldable pub isPrime : ℕ → Bool
-isPrime zero = false
-isPrime (suc zero) = false
-isPrime (suc (suc m)) = undivided (m + 2) 2 m
+unfoldable pub is_prime : ℕ → Bool
+is_prime zero = false
+is_prime (suc zero) = false
+is_prime (suc (suc m)) = undivided (m + 2) 2 m
 
 -- the first prime among the `left` numbers from n on
-unfoldable pub primeFrom : ℕ → ℕ → ℕ
-primeFrom n zero = 0
-primeFrom n (suc left) = cond (isPrime n) n (primeFrom (n + 1) left)
+unfoldable pub prime_from : ℕ → ℕ → ℕ
+prime_from n zero = 0
+prime_from n (suc left) = cond (is_prime n) n (prime_from (n + 1) left)
 
 -- the k-th prime after the prime p; the next one is among the p numbers after p
-unfoldable pub primeAfter : ℕ → ℕ → ℕ
-primeAfter p zero = p
-primeAfter p (suc k) = primeAfter (primeFrom (p + 1) p) k
+unfoldable pub prime_after : ℕ → ℕ → ℕ
+prime_after p zero = p
+prime_after p (suc k) = prime_after (prime_from (p + 1) p) k
 
 -- the k-th prime, counted from 0
-unfoldable pub primeOf : ℕ → ℕ
-primeOf k = primeAfter 2 k
+unfoldable pub prime_of : ℕ → ℕ
+prime_of k = prime_after 2 k
 
 -- the whole e-th root of n, found from r on bit by bit, bit `bits` - 1 first
-unfoldable pub rootFrom : ℕ → ℕ → ℕ → ℕ → ℕ
-rootFrom e n r zero = r
-rootFrom e n r (suc b) = rootFrom e n (cond (nat_le ((r + 2 ^ b) ^ e) n) (r + 2 ^ b) r) b
+unfoldable pub root_from : ℕ → ℕ → ℕ → ℕ → ℕ
+root_from e n r zero = r
+root_from e n r (suc b) = root_from e n (cond (nat_le ((r + 2 ^ b) ^ e) n) (r + 2 ^ b) r) b
 
 -- the first 32 bits of the fraction of the e-th root of q, for a root below 16
 unfoldable pub fraction : ℕ → ℕ → ℕ
-fraction e q = rootFrom e (q * 2 ^ (32 * e)) 0 36 % 2 ^ 32
+fraction e q = root_from e (q * 2 ^ (32 * e)) 0 36 % 2 ^ 32
 
 -- the rule of such a fraction: it is the whole e-th root of q * 2 ^ (32 * e), modulo 2 ^ 32
 pub record Rooted (e q x : ℕ) : Type 0 where

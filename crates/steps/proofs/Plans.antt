@@ -6,27 +6,27 @@ use Rattle.fault.specs.declared.Halt.{Halt}
 use Rattle.steps.specs.OneStep.{Write, Stepped}
 use Rattle.steps.specs.Writes.{stood, CutShort, Ran, through, failed}
 
-pub stood-append : (s : Slots) (ws vs : List Write) → stood s (ws ++ vs) ≡ stood (stood s ws) vs
-stood-append s [] vs = refl
-stood-append s (w ∷ ws) vs = stood-append (set s w.slot w.bytes) ws vs
+pub stood_append : (s : Slots) (ws vs : List Write) → stood s (ws ++ vs) ≡ stood (stood s ws) vs
+stood_append s [] vs = refl
+stood_append s (w ∷ ws) vs = stood_append (set s w.slot w.bytes) ws vs
 
-pub length-stood : (s : Slots) (ws : List Write) → length (stood s ws) ≡ length s
-length-stood s [] = refl
-length-stood s (w ∷ ws) = length-stood (set s w.slot w.bytes) ws ∙ length-set s w.slot w.bytes
+pub length_stood : (s : Slots) (ws : List Write) → length (stood s ws) ≡ length s
+length_stood s [] = refl
+length_stood s (w ∷ ws) = length_stood (set s w.slot w.bytes) ws ∙ length-set s w.slot w.bytes
 
 -- no writes
-pub ran-none : (s t : Slots) (on : Bool) → t ≡ s → on ≡ true → Ran s [] (Ok tt) t on
-ran-none s t on e o = through refl e o
+pub ran_none : (s t : Slots) (on : Bool) → t ≡ s → on ≡ true → Ran s [] (Ok tt) t on
+ran_none s t on e o = through refl e o
 
 -- one write
-pub ran-one : (s t : Slots) (on on' : Bool) (w : Write) (r : Result (Unit {0}) Halt) → w.slot < length s → Stepped s on w r t on' → Ran s (w ∷ []) r t on'
-ran-one s t on on' w (Ok u) h d = through refl d.2 d.3
-ran-one s t on on' w (Err e) h (inl d) =
+pub ran_one : (s t : Slots) (on on' : Bool) (w : Write) (r : Result (Unit {0}) Halt) → w.slot < length s → Stepped s on w r t on' → Ran s (w ∷ []) r t on'
+ran_one s t on on' w (Ok u) h d = through refl d.2 d.3
+ran_one s t on on' w (Err e) h (inl d) =
     elim d.0 [
       | inl k ↦ absurd (omega (arith, k.0))
       | inr k ↦ failed 0 e refl (record { front = []; cut = w; back = []; are = refl; stand = inl refl; slots = d.1; halt = k.2 }) (d.2 ∙ k.1)
     ]
-ran-one s t on on' w (Err e) h (inr d) =
+ran_one s t on on' w (Err e) h (inr d) =
     elim d.3 [
       | inl k ↦ failed 0 e refl (record { front = []; cut = w; back = []; are = refl; stand = inl refl; slots = k; halt = d.2 }) d.4
       | inr k ↦ failed 1 e refl (record { front = []; cut = w; back = []; are = refl; stand = inr refl; slots = k; halt = d.2 }) d.4
@@ -37,8 +37,8 @@ within m ws front back w e (inl k) = let l : length ws ≡ length front + suc (l
 within m ws front back w e (inr k) = let l : length ws ≡ length front + suc (length back) = ap length e ∙ length-append front (w ∷ back) in omega arith
 
 -- a failure among the first writes is one among all
-pub cut-more : (s t : Slots) (ws vs : List Write) (m : ℕ) (h : Halt) → CutShort s ws m h t → CutShort s (ws ++ vs) m h t
-cut-more s t ws vs m h c = record {
+pub cut_more : (s t : Slots) (ws vs : List Write) (m : ℕ) (h : Halt) → CutShort s ws m h t → CutShort s (ws ++ vs) m h t
+cut_more s t ws vs m h c = record {
   front = c.front;
   cut = c.cut;
   back = c.back ++ vs;
@@ -51,17 +51,17 @@ cut-more s t ws vs m h c = record {
 clash : (u : Unit {0}) (h : Halt) → ◌≡◌ {A = Result (Unit {0}) Halt} (Err h) (Ok u) → ⊥
 clash u h e = let z : ◌≡◌ {A = ℕ} 0 1 = cc in omega arith
 
-pub ran-cut : {s t : Slots} {on : Bool} {ws : List Write} {h : Halt} (vs : List Write) → Ran s ws (Err h) t on → Ran s (ws ++ vs) (Err h) t on
-ran-cut vs (through e a b) = absurd (clash _ _ e)
-ran-cut vs (failed m k e c o) = failed m k e (cut-more _ _ _ vs m k c) o
+pub ran_cut : {s t : Slots} {on : Bool} {ws : List Write} {h : Halt} (vs : List Write) → Ran s ws (Err h) t on → Ran s (ws ++ vs) (Err h) t on
+ran_cut vs (through e a b) = absurd (clash _ _ e)
+ran_cut vs (failed m k e c o) = failed m k e (cut_more _ _ _ vs m k c) o
 
 take_past : (ws vs : List Write) (m : ℕ) → take (length ws + m) (ws ++ vs) ≡ ws ++ take m vs
 take_past [] vs m = ap (λ k. take k vs) (zero-add m)
 take_past (w ∷ ws) vs m = ap (λ k. take k (w ∷ (ws ++ vs))) (suc-add (length ws) m) ∙ ap (λ x. w ∷ x) (take_past ws vs m)
 
 -- the first writes done, and then a failure
-pub cut-after : (s t v : Slots) (ws vs : List Write) (m : ℕ) (h : Halt) → t ≡ stood s ws → CutShort t vs m h v → CutShort s (ws ++ vs) (length ws + m) h v
-cut-after s t v ws vs m h a c = record {
+pub cut_after : (s t v : Slots) (ws vs : List Write) (m : ℕ) (h : Halt) → t ≡ stood s ws → CutShort t vs m h v → CutShort s (ws ++ vs) (length ws + m) h v
+cut_after s t v ws vs m h a c = record {
   front = ws ++ c.front;
   cut = c.cut;
   back = c.back;
@@ -70,26 +70,26 @@ cut-after s t v ws vs m h a c = record {
     | inl k ↦ inl (ap (λ x. length ws + x) k ∙ sym (length-append ws c.front))
     | inr k ↦ inr (ap (λ x. length ws + x) k ∙ add-suc (length ws) (length c.front) ∙ ap suc (sym (length-append ws c.front)))
   ];
-  slots = c.slots ∙ ap (λ x. stood x (take m vs)) a ∙ sym (stood-append s ws (take m vs)) ∙ ap (stood s) (sym (take_past ws vs m));
+  slots = c.slots ∙ ap (λ x. stood x (take m vs)) a ∙ sym (stood_append s ws (take m vs)) ∙ ap (stood s) (sym (take_past ws vs m));
   halt = c.halt;
 }
 
 -- the first writes done, and then the others
 pub ran_then : {s t v : Slots} {on on' : Bool} {ws vs : List Write} {r : Result (Unit {0}) Halt} → Ran s ws (Ok tt) t on → Ran t vs r v on' → Ran s (ws ++ vs) r v on'
-ran_then {s = s} {ws = ws} {vs = vs} (through e a o) (through f b q) = through f (b ∙ ap (λ x. stood x vs) a ∙ sym (stood-append s ws vs)) q
-ran_then {ws = ws} (through e a o) (failed m h f c q) = failed (length ws + m) h f (cut-after _ _ _ _ _ m h a c) q
+ran_then {s = s} {ws = ws} {vs = vs} (through e a o) (through f b q) = through f (b ∙ ap (λ x. stood x vs) a ∙ sym (stood_append s ws vs)) q
+ran_then {ws = ws} (through e a o) (failed m h f c q) = failed (length ws + m) h f (cut_after _ _ _ _ _ m h a c) q
 ran_then (failed m h e c o) b = absurd (clash tt h (sym e))
 
-done-slots : {s t : Slots} {on : Bool} {ws : List Write} → Ran s ws (Ok tt) t on → t ≡ stood s ws
-done-slots (through e a o) = a
-done-slots (failed m h e c o) = absurd (clash tt h (sym e))
+done_slots : {s t : Slots} {on : Bool} {ws : List Write} → Ran s ws (Ok tt) t on → t ≡ stood s ws
+done_slots (through e a o) = a
+done_slots (failed m h e c o) = absurd (clash tt h (sym e))
 
 -- one more write after those done
-pub ran-next : {s t v : Slots} {on on' : Bool} {ws : List Write} (w : Write) {r : Result (Unit {0}) Halt} → Ran s ws (Ok tt) t on → w.slot < length s → Stepped t on w r v on' → Ran s (ws ++ (w ∷ [])) r v on'
-ran-next {s = s} {t = t} {ws = ws} w a h d =
-    let l : length t ≡ length s = ap length (done-slots a) ∙ length-stood s ws in
-    ran_then a (ran-one t _ _ _ w _ (omega arith) d)
+pub ran_next : {s t v : Slots} {on on' : Bool} {ws : List Write} (w : Write) {r : Result (Unit {0}) Halt} → Ran s ws (Ok tt) t on → w.slot < length s → Stepped t on w r v on' → Ran s (ws ++ (w ∷ [])) r v on'
+ran_next {s = s} {t = t} {ws = ws} w a h d =
+    let l : length t ≡ length s = ap length (done_slots a) ∙ length_stood s ws in
+    ran_then a (ran_one t _ _ _ w _ (omega arith) d)
 
 -- the same slots and power under other names
-pub ran-as : {s t : Slots} {on : Bool} {ws vs : List Write} {r : Result (Unit {0}) Halt} → ws ≡ vs → Ran s ws r t on → Ran s vs r t on
-ran-as {s = s} {t = t} {on = on} {r = r} e a = subst (λ x. Ran s x r t on) e a
+pub ran_as : {s t : Slots} {on : Bool} {ws vs : List Write} {r : Result (Unit {0}) Halt} → ws ≡ vs → Ran s ws r t on → Ran s vs r t on
+ran_as {s = s} {t = t} {on = on} {r = r} e a = subst (λ x. Ran s x r t on) e a

@@ -28,8 +28,8 @@ pub record Write : Type 0 where
   pub bytes : Slot
   pub step : Step
 
-abbrev pub writeOf : ℕ → Slot → Step → Write
-writeOf i b a = record { slot = i; bytes = b; step = a }
+abbrev pub write_of : ℕ → Slot → Step → Write
+write_of i b a = record { slot = i; bytes = b; step = a }
 
 -- one write: done; or declined, and all is as it was; or cut, when it stands or not and the power is off
 abbrev pub Stepped : Slots → Bool → Write → Result (Unit {0}) Halt → Slots → Bool → Type 0

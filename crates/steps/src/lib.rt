@@ -5,7 +5,7 @@
 #![tactic(auto)]
 
 ghost use Rattle.std.specs.Prelude.{◌≡◌};
-ghost use Rattle.steps.specs.OneStep.{halt_of, writeOf, Fetched, Stepped, Restarted};
+ghost use Rattle.steps.specs.OneStep.{halt_of, write_of, Fetched, Stepped, Restarted};
 
 use device::{DeviceFault, ReadSlots, WriteSlots};
 use fault::{Halt, Step};
@@ -38,7 +38,7 @@ pub fn write_at<D: WriteSlots>(
     bytes: &[u8; 64],
     step: Step,
 ) -> Result<(), Halt>
-    ensures { Stepped (D.ReadSlots.slots device.old) (D.ReadSlots.powered device.old) (writeOf slot bytes.now step) result (D.ReadSlots.slots device.new) (D.ReadSlots.powered device.new) }
+    ensures { Stepped (D.ReadSlots.slots device.old) (D.ReadSlots.powered device.old) (write_of slot bytes.now step) result (D.ReadSlots.slots device.new) (D.ReadSlots.powered device.new) }
 {
     device
         .write(slot as usize, bytes)

@@ -2,10 +2,10 @@
 use Rattle.std.proofs.Common.{◌≡◌, ℕ, zero, suc, ◌+◌, ◌^◌, ◌<◌, ◌≤◌, Bool, true, false, ltb, leb, ◌⊎◌, List, [], ◌∷◌, length, refl, ap, inl, inr, arith, length-append, pow_pos, ltb-true, lt-ltb, le-leb, leb-true}
 use Rattle.std.proofs.lemmas.Bool.{cases_lt, le-ltb, lt-leb}
 use Rattle.tree.specs.declared.Node.{Node}
-use Rattle.tree.specs.Cover.{In, Free, below, above, coverAt, Reached, Least}
-use Rattle.tree.proofs.Members.{first, in-below, in-above, of-below, of-above, Within, within-below, within-above, within-root, Under, range}
-use Rattle.tree.proofs.Choice.{not-struck}
-use Rattle.tree.proofs.Places.{is-under}
+use Rattle.tree.specs.Cover.{In, Free, below, above, cover_at, Reached, Least}
+use Rattle.tree.proofs.Members.{first, in_below, in_above, of_below, of_above, Within, within_below, within_above, within_root, Under, range}
+use Rattle.tree.proofs.Choice.{not_struck}
+use Rattle.tree.proofs.Places.{under_of_node}
 
 abbrev put : Bool → Node → List Node → List Node
 put true x xs = x ∷ xs
@@ -20,44 +20,44 @@ abbrev highs : ℕ → List Node → List Node
 highs m [] = []
 highs m (x ∷ xs) = put (leb m (first x)) x (highs m xs)
 
-in-put-tail : (b : Bool) (k n : Node) (ns : List Node) → In k ns → In k (put b n ns)
-in-put-tail true k n ns m = inr m
-in-put-tail false k n ns m = m
+in_put_tail : (b : Bool) (k n : Node) (ns : List Node) → In k ns → In k (put b n ns)
+in_put_tail true k n ns m = inr m
+in_put_tail false k n ns m = m
 
-in-put-head : (b : Bool) (k n : Node) (ns : List Node) → k ≡ n → b ≡ true → In k (put b n ns)
-in-put-head true k n ns q e = inl q
-in-put-head false k n ns q e = let z : ◌≡◌ {A = ℕ} 0 1 = cc in absurd (omega arith)
+in_put_head : (b : Bool) (k n : Node) (ns : List Node) → k ≡ n → b ≡ true → In k (put b n ns)
+in_put_head true k n ns q e = inl q
+in_put_head false k n ns q e = let z : ◌≡◌ {A = ℕ} 0 1 = cc in absurd (omega arith)
 
-of-put : (b : Bool) (k n : Node) (ns : List Node) → In k (put b n ns) → ((k ≡ n) × (b ≡ true)) ⊎ In k ns
-of-put true k n ns (inl q) = inl (q, refl)
-of-put true k n ns (inr m) = inr m
-of-put false k n ns m = inr m
+of_put : (b : Bool) (k n : Node) (ns : List Node) → In k (put b n ns) → ((k ≡ n) × (b ≡ true)) ⊎ In k ns
+of_put true k n ns (inl q) = inl (q, refl)
+of_put true k n ns (inr m) = inr m
+of_put false k n ns m = inr m
 
-in-lows : (m : ℕ) (x : Node) (xs : List Node) → In x xs → first x < m → In x (lows m xs)
-in-lows m x (y ∷ ys) (inl q) h = in-put-head (ltb (first y) m) x y (lows m ys) q (lt-ltb (first y) m (omega (arith, ap first q)))
-in-lows m x (y ∷ ys) (inr i) h = in-put-tail (ltb (first y) m) x y (lows m ys) (in-lows m x ys i h)
-in-lows m x [] i h = absurd i
+in_lows : (m : ℕ) (x : Node) (xs : List Node) → In x xs → first x < m → In x (lows m xs)
+in_lows m x (y ∷ ys) (inl q) h = in_put_head (ltb (first y) m) x y (lows m ys) q (lt-ltb (first y) m (omega (arith, ap first q)))
+in_lows m x (y ∷ ys) (inr i) h = in_put_tail (ltb (first y) m) x y (lows m ys) (in_lows m x ys i h)
+in_lows m x [] i h = absurd i
 
-in-highs : (m : ℕ) (x : Node) (xs : List Node) → In x xs → m ≤ first x → In x (highs m xs)
-in-highs m x (y ∷ ys) (inl q) h = in-put-head (leb m (first y)) x y (highs m ys) q (le-leb m (first y) (omega (arith, ap first q)))
-in-highs m x (y ∷ ys) (inr i) h = in-put-tail (leb m (first y)) x y (highs m ys) (in-highs m x ys i h)
-in-highs m x [] i h = absurd i
+in_highs : (m : ℕ) (x : Node) (xs : List Node) → In x xs → m ≤ first x → In x (highs m xs)
+in_highs m x (y ∷ ys) (inl q) h = in_put_head (leb m (first y)) x y (highs m ys) q (le-leb m (first y) (omega (arith, ap first q)))
+in_highs m x (y ∷ ys) (inr i) h = in_put_tail (leb m (first y)) x y (highs m ys) (in_highs m x ys i h)
+in_highs m x [] i h = absurd i
 
-of-lows : (m : ℕ) (x : Node) (xs : List Node) → In x (lows m xs) → In x xs × (first x < m)
-of-lows m x (y ∷ ys) i =
-    elim (of-put (ltb (first y) m) x y (lows m ys) i) [
+of_lows : (m : ℕ) (x : Node) (xs : List Node) → In x (lows m xs) → In x xs × (first x < m)
+of_lows m x (y ∷ ys) i =
+    elim (of_put (ltb (first y) m) x y (lows m ys) i) [
       | inl a ↦ (inl a.0, omega (arith, ap first a.0, ltb-true (first y) m a.1))
-      | inr b ↦ (inr (of-lows m x ys b).0, (of-lows m x ys b).1)
+      | inr b ↦ (inr (of_lows m x ys b).0, (of_lows m x ys b).1)
     ]
-of-lows m x [] i = absurd i
+of_lows m x [] i = absurd i
 
-of-highs : (m : ℕ) (x : Node) (xs : List Node) → In x (highs m xs) → In x xs × (m ≤ first x)
-of-highs m x (y ∷ ys) i =
-    elim (of-put (leb m (first y)) x y (highs m ys) i) [
+of_highs : (m : ℕ) (x : Node) (xs : List Node) → In x (highs m xs) → In x xs × (m ≤ first x)
+of_highs m x (y ∷ ys) i =
+    elim (of_put (leb m (first y)) x y (highs m ys) i) [
       | inl a ↦ (inl a.0, omega (arith, ap first a.0, leb-true m (first y) a.1))
-      | inr b ↦ (inr (of-highs m x ys b).0, (of-highs m x ys b).1)
+      | inr b ↦ (inr (of_highs m x ys b).0, (of_highs m x ys b).1)
     ]
-of-highs m x [] i = absurd i
+of_highs m x [] i = absurd i
 
 halves : (m : ℕ) (xs : List Node) → length (lows m xs) + length (highs m xs) ≡ length xs
 halves m [] = refl
@@ -86,7 +86,7 @@ half : (d e h p k : ℕ) (ks : List ℕ) (xs : List Node) → e + suc h ≡ d �
     (x : Node) → In x xs → Under (suc e) h p x ⊎ Under (suc e) h (p + 2 ^ h) x
 half d e h p k ks xs q w r x i =
     elim (r.under x i) [
-      | inl s ↦ absurd (not-struck d e (suc h) p k ks x q w s (r.free x i))
+      | inl s ↦ absurd (not_struck d e (suc h) p k ks x q w s (r.free x i))
       | inr s ↦ s
     ]
 
@@ -96,12 +96,12 @@ left d e h p k ks xs q w r =
     let m = p + 2 ^ h in
     record {
       under = λ x i.
-          let a = of-lows m x xs i in
+          let a = of_lows m x xs i in
           elim (half d e h p k ks xs q w r x a.0) [ inl u ↦ u | inr u ↦ let g = range d (suc e) h m x (omega arith) u in absurd (omega arith) ];
-      free = λ x i n j. r.free x (of-lows m x xs i).0 n (of-below m n (k ∷ ks) j).0;
+      free = λ x i n j. r.free x (of_lows m x xs i).0 n (of_below m n (k ∷ ks) j).0;
       reach = λ n a b f.
-          let t = r.reach n a (omega arith) (λ j. f (in-below m n (k ∷ ks) j b)) in
-          (t.0, in-lows m t.0 xs t.1 (omega (arith, t.2)), t.2);
+          let t = r.reach n a (omega arith) (λ j. f (in_below m n (k ∷ ks) j b)) in
+          (t.0, in_lows m t.0 xs t.1 (omega (arith, t.2)), t.2);
     }
 
 right : (d e h p k : ℕ) (ks : List ℕ) (xs : List Node) → e + suc h ≡ d → Within (suc h) p (k ∷ ks) → Does d e (suc h) p (k ∷ ks) xs →
@@ -110,34 +110,34 @@ right d e h p k ks xs q w r =
     let m = p + 2 ^ h in
     record {
       under = λ x i.
-          let a = of-highs m x xs i in
+          let a = of_highs m x xs i in
           elim (half d e h p k ks xs q w r x a.0) [ inl u ↦ let g = range d (suc e) h p x (omega arith) u in absurd (omega arith) | inr u ↦ u ];
-      free = λ x i n j. r.free x (of-highs m x xs i).0 n (of-above m n (k ∷ ks) j).0;
+      free = λ x i n j. r.free x (of_highs m x xs i).0 n (of_above m n (k ∷ ks) j).0;
       reach = λ n a b f.
-          let t = r.reach n (omega arith) (omega arith) (λ j. f (in-above m n (k ∷ ks) j a)) in
+          let t = r.reach n (omega arith) (omega arith) (λ j. f (in_above m n (k ∷ ks) j a)) in
           let hi : m ≤ first t.0 =
           elim (half d e h p k ks xs q w r t.0 t.1) [
             | inl u ↦ let g = range d (suc e) h p t.0 (omega arith) u in absurd (omega (arith, t.2))
             | inr u ↦ (range d (suc e) h m t.0 (omega arith) u).low
           ] in
-          (t.0, in-highs m t.0 xs t.1 hi, t.2);
+          (t.0, in_highs m t.0 xs t.1 hi, t.2);
     }
 
-leastAt : (d e h p : ℕ) (ns : List ℕ) (xs : List Node) → e + h ≡ d → Within h p ns → Does d e h p ns xs → length (coverAt e h p ns) ≤ length xs
-leastAt d e h p [] xs q w r = some d e h p xs r
-leastAt d e zero p (k ∷ ks) xs q w r = omega arith
-leastAt d e (suc h) p (k ∷ ks) xs q w r =
+least_at : (d e h p : ℕ) (ns : List ℕ) (xs : List Node) → e + h ≡ d → Within h p ns → Does d e h p ns xs → length (cover_at e h p ns) ≤ length xs
+least_at d e h p [] xs q w r = some d e h p xs r
+least_at d e zero p (k ∷ ks) xs q w r = omega arith
+least_at d e (suc h) p (k ∷ ks) xs q w r =
     let m = p + 2 ^ h in
-    let a = leastAt d (suc e) h p (below m (k ∷ ks)) (lows m xs) (omega arith) (within-below h p (k ∷ ks) w) (left d e h p k ks xs q w r) in
-    let b = leastAt d (suc e) h m (above m (k ∷ ks)) (highs m xs) (omega arith) (within-above h p (k ∷ ks) w) (right d e h p k ks xs q w r) in
+    let a = least_at d (suc e) h p (below m (k ∷ ks)) (lows m xs) (omega arith) (within_below h p (k ∷ ks) w) (left d e h p k ks xs q w r) in
+    let b = least_at d (suc e) h m (above m (k ∷ ks)) (highs m xs) (omega arith) (within_above h p (k ∷ ks) w) (right d e h p k ks xs q w r) in
     let c = halves m xs in
     rw length-append (omega arith)
 
 pub least : Least
 least d spent xs r =
-    leastAt d 0 d 0 (below (2 ^ d) spent) xs (omega arith) (within-root d spent)
+    least_at d 0 d 0 (below (2 ^ d) spent) xs (omega arith) (within_root d spent)
     (record {
-      under = λ x i. is-under d x (r.nodes x i);
-      free = λ x i n j. r.free x i n (of-below (2 ^ d) n spent j).0;
-      reach = λ n a b f. r.reach n (omega arith) (λ j. f (in-below (2 ^ d) n spent j (omega arith)));
+      under = λ x i. under_of_node d x (r.nodes x i);
+      free = λ x i n j. r.free x i n (of_below (2 ^ d) n spent j).0;
+      reach = λ n a b f. r.reach n (omega arith) (λ j. f (in_below (2 ^ d) n spent j (omega arith)));
     })

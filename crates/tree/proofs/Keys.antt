@@ -3,20 +3,20 @@ use Rattle.std.proofs.Common.{◌≡◌, ℕ, ◌+◌, ◌-◌, ◌^◌, ◌<◌
 use Rattle.tree.specs.declared.Node.{Node}
 use Rattle.tree.specs.Nodes.{Covers}
 use Rattle.tree.specs.Cover.{In, cover}
-use Rattle.tree.specs.Puncture.{siblingsFrom}
-use Rattle.tree.specs.Values.{Expansion, value_of, key_of, valueFrom, Valued, valued, valuedCover, PuncturedValues, WorkedOut, KeysOf}
+use Rattle.tree.specs.Puncture.{siblings_from}
+use Rattle.tree.specs.Values.{Expansion, value_of, key_of, value_from, Valued, valued, valued_cover, PuncturedValues, WorkedOut, KeysOf}
 use Rattle.tree.proofs.Members.{depth, first, in_right, range}
 use Rattle.tree.proofs.Choice.{to}
-use Rattle.tree.proofs.Places.{is-node, cover-under}
+use Rattle.tree.proofs.Places.{node_of_under, cover_under}
 use Rattle.tree.proofs.Exact.{exactly}
 use Rattle.tree.proofs.Replacement.{cover_one}
-use Rattle.tree.proofs.Cuts.{punctured-at}
-use Rattle.tree.proofs.Flanks.{within-one}
-use Rattle.tree.proofs.Descent.{composed, key-from, agree}
+use Rattle.tree.proofs.Cuts.{punctured_at}
+use Rattle.tree.proofs.Flanks.{within_one}
+use Rattle.tree.proofs.Descent.{composed, key_from_is, agree}
 
-pub valued-append : (f : Node → List ℕ) (xs ys : List Node) → valued f (xs ++ ys) ≡ valued f xs ++ valued f ys
-valued-append f [] ys = refl
-valued-append f (x ∷ xs) ys = ap (λ (l : List Valued). (x, f x) ∷ l) (valued-append f xs ys)
+pub valued_append : (f : Node → List ℕ) (xs ys : List Node) → valued f (xs ++ ys) ≡ valued f xs ++ valued f ys
+valued_append f [] ys = refl
+valued_append f (x ∷ xs) ys = ap (λ (l : List Valued). (x, f x) ∷ l) (valued_append f xs ys)
 
 -- a cut of the list with values is a cut of the list
 pub record Uncut (f : Node → List ℕ) (xs : List Node) (x : Node) (u : List ℕ) (front back : List Valued) : Type 0 where
@@ -55,43 +55,43 @@ pub record Lies (d : ℕ) (x y : Node) : Type 0 where
   pub deep : depth x ≤ depth y
   pub within : Covers d x (first y)
 
-pub sibling-lies : (d n : ℕ) (x y : Node) → depth x ≤ d → Covers d x n → In y (siblingsFrom d x n) → Lies d x y
-sibling-lies d n x y o v i =
+pub sibling_lies : (d n : ℕ) (x y : Node) → depth x ≤ d → Covers d x n → In y (siblings_from d x n) → Lies d x y
+sibling_lies d n x y o v i =
     let e = depth x in
     let h = d - depth x in
     let p = first x in
     let q : e + h ≡ d = omega arith in
-    let c = to d e h p (n ∷ []) y q (within-one d n x v) (subst (λ (l : List Node). In y l) (sym (cover_one e h p n)) i) in
+    let c = to d e h p (n ∷ []) y q (within_one d n x v) (subst (λ (l : List Node). In y l) (sym (cover_one e h p n)) i) in
     let r = range d e h p y q c.under in
     record { shallow = r.shallow; deep = r.deep; within = (r.low, omega arith) }
 
-pub punctured-values : PuncturedValues
-punctured-values g d v spent n x u front back q c =
+pub punctured_values : PuncturedValues
+punctured_values g d v spent n x u front back q c =
     let f : Node → List ℕ = value_of g d v in
     let r = uncut f (cover d spent) x u front back q in
     let i : In x (cover d spent) = subst (λ (l : List Node). In x l) (sym r.was) (in_right x r.before (x ∷ r.after) (inl refl)) in
-    let o = is-node d x (cover-under d spent x i) in
-    let p = punctured-at d spent n x r.before r.after r.was c in
-    let s : valued f (siblingsFrom d x n) ≡ valued (valueFrom g d x u) (siblingsFrom d x n) =
-    agree f (valueFrom g d x u) (siblingsFrom d x n) (λ y j.
-    let l = sibling-lies d n x y o.shallow c j in
-    sym (ap (λ (w : List ℕ). valueFrom g d x w y) r.here ∙ composed g d v x y o l.shallow l.deep l.within)) in
-    ap (valued f) p ∙ valued-append f r.before (siblingsFrom d x n ++ r.after) ∙
-    ap₂ (λ (a b : List Valued). a ++ b) r.low (valued-append f (siblingsFrom d x n) r.after ∙ ap₂ (λ (a b : List Valued). a ++ b) s r.high)
+    let o = node_of_under d x (cover_under d spent x i) in
+    let p = punctured_at d spent n x r.before r.after r.was c in
+    let s : valued f (siblings_from d x n) ≡ valued (value_from g d x u) (siblings_from d x n) =
+    agree f (value_from g d x u) (siblings_from d x n) (λ y j.
+    let l = sibling_lies d n x y o.shallow c j in
+    sym (ap (λ (w : List ℕ). value_from g d x w y) r.here ∙ composed g d v x y o l.shallow l.deep l.within)) in
+    ap (valued f) p ∙ valued_append f r.before (siblings_from d x n ++ r.after) ∙
+    ap₂ (λ (a b : List Valued). a ++ b) r.low (valued_append f (siblings_from d x n) r.after ∙ ap₂ (λ (a b : List Valued). a ++ b) s r.high)
 
 -- ---- the keys that can be worked out
-pub in-valued : (f : Node → List ℕ) (xs : List Node) (x : Node) → In x xs → In (x, f x) (valued f xs)
-in-valued f [] x i = absurd i
-in-valued f (y ∷ ys) x (inl q) = inl (ap (λ (z : Node). (z, f z)) q)
-in-valued f (y ∷ ys) x (inr i) = inr (in-valued f ys x i)
+pub in_valued : (f : Node → List ℕ) (xs : List Node) (x : Node) → In x xs → In (x, f x) (valued f xs)
+in_valued f [] x i = absurd i
+in_valued f (y ∷ ys) x (inl q) = inl (ap (λ (z : Node). (z, f z)) q)
+in_valued f (y ∷ ys) x (inr i) = inr (in_valued f ys x i)
 
-pub of-valued : (f : Node → List ℕ) (xs : List Node) (x : Node) (u : List ℕ) → In (x, u) (valued f xs) → In x xs
-of-valued f [] x u i = absurd i
-of-valued f (y ∷ ys) x u (inl q) = inl (ap (λ (z : Valued). z.0) q)
-of-valued f (y ∷ ys) x u (inr i) = inr (of-valued f ys x u i)
+pub of_valued : (f : Node → List ℕ) (xs : List Node) (x : Node) (u : List ℕ) → In (x, u) (valued f xs) → In x xs
+of_valued f [] x u i = absurd i
+of_valued f (y ∷ ys) x u (inl q) = inl (ap (λ (z : Valued). z.0) q)
+of_valued f (y ∷ ys) x u (inr i) = inr (of_valued f ys x u i)
 
-unspent : (g : Expansion) (d : ℕ) (v : List ℕ) (spent : List ℕ) (n : ℕ) → n < 2 ^ d → (k : List ℕ) → WorkedOut g d (valuedCover g d v spent) n k → In n spent → ⊥
-unspent g d v spent n l k t = (exactly d spent n l).0 (t.0, of-valued (value_of g d v) (cover d spent) t.0 t.1 t.2, t.3)
+unspent : (g : Expansion) (d : ℕ) (v : List ℕ) (spent : List ℕ) (n : ℕ) → n < 2 ^ d → (k : List ℕ) → WorkedOut g d (valued_cover g d v spent) n k → In n spent → ⊥
+unspent g d v spent n l k t = (exactly d spent n l).0 (t.0, of_valued (value_of g d v) (cover d spent) t.0 t.1 t.2, t.3)
 
 pub keys_of : KeysOf
 keys_of g d v spent n l = (
@@ -100,8 +100,8 @@ keys_of g d v spent n l = (
     λ f.
         let t = (exactly d spent n l).1 f in
         let x = t.0 in
-        let o = is-node d x (cover-under d spent x t.1) in
-        (x, value_of g d v x, in-valued (value_of g d v) (cover d spent) x t.1, t.2, (key-from g d v x n o t.2).same),
+        let o = node_of_under d x (cover_under d spent x t.1) in
+        (x, value_of g d v x, in_valued (value_of g d v) (cover d spent) x t.1, t.2, (key_from_is g d v x n o t.2).same),
   ),
   λ i k t. unspent g d v spent n l k t i,
 )

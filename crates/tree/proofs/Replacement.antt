@@ -2,14 +2,14 @@
 use Rattle.std.proofs.Common.{◌≡◌, ℕ, zero, suc, ◌+◌, ◌-◌, ◌^◌, ◌<◌, ◌≤◌, List, [], ◌∷◌, ◌++◌, sym, refl, ap, ◌∙◌, subst, inl, inr, append_assoc, append-nil, arith, lt-ltb, le-leb}
 use Rattle.std.proofs.lemmas.Bool.{cases_lt, le-ltb, lt-leb}
 use Rattle.tree.specs.declared.Node.{Node}
-use Rattle.tree.specs.Nodes.{nodeAt, Covers}
-use Rattle.tree.specs.Cover.{In, below, above, coverAt}
-use Rattle.tree.specs.Puncture.{siblingsOn, Replaced, Punctured}
-use Rattle.tree.proofs.Members.{depth, first, in-cases, Within, within-below, within-above, within-root, range}
+use Rattle.tree.specs.Nodes.{node_at, Covers}
+use Rattle.tree.specs.Cover.{In, below, above, cover_at}
+use Rattle.tree.specs.Puncture.{siblings_on, Replaced, Punctured}
+use Rattle.tree.proofs.Members.{depth, first, in_cases, Within, within_below, within_above, within_root, range}
 use Rattle.tree.proofs.Choice.{to}
-use Rattle.tree.proofs.Places.{cover-under, covered-below}
+use Rattle.tree.proofs.Places.{cover_under, covered_below}
 
-pub cover_one : (e h p n : ℕ) → coverAt e h p (n ∷ []) ≡ siblingsOn e h p n
+pub cover_one : (e h p n : ℕ) → cover_at e h p (n ∷ []) ≡ siblings_on e h p n
 cover_one e zero p n = refl
 cover_one e (suc h) p n =
     let m = p + 2 ^ h in
@@ -19,9 +19,9 @@ cover_one e (suc h) p n =
     ]
 
 abbrev ReplacedAt : ℕ → ℕ → ℕ → ℕ → List ℕ → ℕ → Node → Type 0
-ReplacedAt d e h p ns n x = Replaced (coverAt e h p ns) (coverAt e h p (n ∷ ns)) x (siblingsOn (depth x) (d - depth x) (first x) n)
+ReplacedAt d e h p ns n x = Replaced (cover_at e h p ns) (cover_at e h p (n ∷ ns)) x (siblings_on (depth x) (d - depth x) (first x) n)
 
-lone : (d e h p n : ℕ) (x : Node) → e + h ≡ d → x ≡ nodeAt e p → ReplacedAt d e h p [] n x
+lone : (d e h p n : ℕ) (x : Node) → e + h ≡ d → x ≡ node_at e p → ReplacedAt d e h p [] n x
 lone d e h p n x q i =
     let k : d - e ≡ h = omega arith in
     subst (λ (y : Node). ReplacedAt d e h p [] n y) (sym i)
@@ -29,14 +29,14 @@ lone d e h p n x q i =
       front = [];
       back = [];
       was = refl;
-      is = rw k (cover_one e h p n ∙ sym (append-nil (siblingsOn e h p n)));
+      is = rw k (cover_one e h p n ∙ sym (append-nil (siblings_on e h p n)));
     })
 
-on-left : (d e h p n k : ℕ) (ks : List ℕ) (x : Node) → n < p + 2 ^ h → ReplacedAt d (suc e) h p (below (p + 2 ^ h) (k ∷ ks)) n x → ReplacedAt d e (suc h) p (k ∷ ks) n x
-on-left d e h p n k ks x l r =
+replaced_on_left : (d e h p n k : ℕ) (ks : List ℕ) (x : Node) → n < p + 2 ^ h → ReplacedAt d (suc e) h p (below (p + 2 ^ h) (k ∷ ks)) n x → ReplacedAt d e (suc h) p (k ∷ ks) n x
+replaced_on_left d e h p n k ks x l r =
     let m = p + 2 ^ h in
-    let rs = coverAt (suc e) h m (above m (k ∷ ks)) in
-    let ss = siblingsOn (depth x) (d - depth x) (first x) n in
+    let rs = cover_at (suc e) h m (above m (k ∷ ks)) in
+    let ss = siblings_on (depth x) (d - depth x) (first x) n in
     record {
       front = r.front;
       back = r.back ++ rs;
@@ -44,10 +44,10 @@ on-left d e h p n k ks x l r =
       is = rw (lt-ltb n m l, lt-leb m n l) (ap (λ z. z ++ rs) r.is ∙ simp append_assoc);
     }
 
-on-right : (d e h p n k : ℕ) (ks : List ℕ) (x : Node) → p + 2 ^ h ≤ n → ReplacedAt d (suc e) h (p + 2 ^ h) (above (p + 2 ^ h) (k ∷ ks)) n x → ReplacedAt d e (suc h) p (k ∷ ks) n x
-on-right d e h p n k ks x l r =
+replaced_on_right : (d e h p n k : ℕ) (ks : List ℕ) (x : Node) → p + 2 ^ h ≤ n → ReplacedAt d (suc e) h (p + 2 ^ h) (above (p + 2 ^ h) (k ∷ ks)) n x → ReplacedAt d e (suc h) p (k ∷ ks) n x
+replaced_on_right d e h p n k ks x l r =
     let m = p + 2 ^ h in
-    let ls = coverAt (suc e) h p (below m (k ∷ ks)) in
+    let ls = cover_at (suc e) h p (below m (k ∷ ks)) in
     record {
       front = ls ++ r.front;
       back = r.back;
@@ -55,32 +55,32 @@ on-right d e h p n k ks x l r =
       is = rw (le-ltb n m l, le-leb m n l) (ap (λ z. ls ++ z) r.is ∙ simp append_assoc);
     }
 
-punct : (d e h p : ℕ) (ns : List ℕ) (n : ℕ) (x : Node) → e + h ≡ d → Within h p ns → In x (coverAt e h p ns) → Covers d x n → ReplacedAt d e h p ns n x
+punct : (d e h p : ℕ) (ns : List ℕ) (n : ℕ) (x : Node) → e + h ≡ d → Within h p ns → In x (cover_at e h p ns) → Covers d x n → ReplacedAt d e h p ns n x
 punct d e h p [] n x q w (inl i) c = lone d e h p n x q i
 punct d e h p [] n x q w (inr i) c = absurd i
 punct d e zero p (k ∷ ks) n x q w i c = absurd i
 punct d e (suc h) p (k ∷ ks) n x q w i c =
     let m = p + 2 ^ h in
     let s : suc e + h ≡ d = omega arith in
-    let wl = within-below h p (k ∷ ks) w in
-    let wr = within-above h p (k ∷ ks) w in
-    elim (in-cases x (coverAt (suc e) h p (below m (k ∷ ks))) (coverAt (suc e) h m (above m (k ∷ ks))) i) [
+    let wl = within_below h p (k ∷ ks) w in
+    let wr = within_above h p (k ∷ ks) w in
+    elim (in_cases x (cover_at (suc e) h p (below m (k ∷ ks))) (cover_at (suc e) h m (above m (k ∷ ks))) i) [
       | inl a ↦
           let g = range d (suc e) h p x s (to d (suc e) h p (below m (k ∷ ks)) x s wl a).under in
-          on-left d e h p n k ks x (omega arith) (punct d (suc e) h p (below m (k ∷ ks)) n x s wl a c)
+          replaced_on_left d e h p n k ks x (omega arith) (punct d (suc e) h p (below m (k ∷ ks)) n x s wl a c)
       | inr a ↦
           let g = range d (suc e) h m x s (to d (suc e) h m (above m (k ∷ ks)) x s wr a).under in
-          on-right d e h p n k ks x (omega arith) (punct d (suc e) h m (above m (k ∷ ks)) n x s wr a c)
+          replaced_on_right d e h p n k ks x (omega arith) (punct d (suc e) h m (above m (k ∷ ks)) n x s wr a c)
     ]
 
 pub punctured : Punctured
 punctured d spent n x i c =
-    let l = covered-below d n x (cover-under d spent x i) c in
-    rw (lt-ltb n (2 ^ d) l) (punct d 0 d 0 (below (2 ^ d) spent) n x (omega arith) (within-root d spent) i c)
+    let l = covered_below d n x (cover_under d spent x i) c in
+    rw (lt-ltb n (2 ^ d) l) (punct d 0 d 0 (below (2 ^ d) spent) n x (omega arith) (within_root d spent) i c)
 
 -- ---- for a loop that walks down and lists the siblings: h is the height left, k that of the children, i their depth
-pub sib-left : (e i h k p n : ℕ) → h ≡ suc k → i ≡ suc e → n < p + 2 ^ k → siblingsOn e h p n ≡ siblingsOn i k p n ++ (nodeAt i (p + 2 ^ k) ∷ [])
-sib-left e i h k p n q r l = rw (q, r, lt-ltb n (p + 2 ^ k) l)
+pub sib_left : (e i h k p n : ℕ) → h ≡ suc k → i ≡ suc e → n < p + 2 ^ k → siblings_on e h p n ≡ siblings_on i k p n ++ (node_at i (p + 2 ^ k) ∷ [])
+sib_left e i h k p n q r l = rw (q, r, lt-ltb n (p + 2 ^ k) l)
 
-pub sib-right : (e i h k p n : ℕ) → h ≡ suc k → i ≡ suc e → p + 2 ^ k ≤ n → siblingsOn e h p n ≡ nodeAt i p ∷ siblingsOn i k (p + 2 ^ k) n
-sib-right e i h k p n q r l = rw (q, r, le-ltb n (p + 2 ^ k) l)
+pub sib_right : (e i h k p n : ℕ) → h ≡ suc k → i ≡ suc e → p + 2 ^ k ≤ n → siblings_on e h p n ≡ node_at i p ∷ siblings_on i k (p + 2 ^ k) n
+sib_right e i h k p n q r l = rw (q, r, le-ltb n (p + 2 ^ k) l)

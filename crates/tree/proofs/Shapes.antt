@@ -2,10 +2,10 @@
 use Rattle.std.proofs.Common.{◌≡◌, ℕ, suc, ◌+◌, ◌-◌, ◌*◌, ◌/◌, ◌%◌, ◌^◌, ◌<◌, ◌≤◌, Bool, true, T, sym, refl, ap, ◌∙◌, subst, mod-eq_of_lt, div-add-mod', arith, pow_mono}
 use native.Mathlib.Nat.{mul-mod_left}
 use Rattle.tree.specs.declared.Node.{Node}
-use Rattle.tree.specs.Nodes.{nodeAt, width_of, IsNode, Twins}
+use Rattle.tree.specs.Nodes.{node_at, width_of, IsNode, Twins}
 use Rattle.tree.proofs.Members.{depth, first, range}
-use Rattle.tree.proofs.Places.{is-under}
-use Rattle.tree.proofs.Choice.{node-eq}
+use Rattle.tree.proofs.Places.{under_of_node}
+use Rattle.tree.proofs.Choice.{node_eq}
 
 pub told : (b : Bool) → b ≡ true → T b
 told b q = subst T (sym q) tt
@@ -20,12 +20,12 @@ shifted k l =
 pub multiple : (p w : ℕ) → p % w ≡ 0 → p ≡ p / w * w
 multiple p w z = let q = div-add-mod' p w in omega arith
 
-pub node-from : (d w : ℕ) (x : Node) → depth x ≤ d → w ≡ width_of d (depth x) → first x % w ≡ 0 → first x < 2 ^ d → IsNode d x
-node-from d w x l q z i =
+pub node_from : (d w : ℕ) (x : Node) → depth x ≤ d → w ≡ width_of d (depth x) → first x % w ≡ 0 → first x < 2 ^ d → IsNode d x
+node_from d w x l q z i =
     record { shallow = l; place = first x / w; aligned = subst (λ (v : ℕ). first x ≡ first x / w * v) q (multiple (first x) w z); inside = i }
 
-pub node-to : (d w : ℕ) (x : Node) → w ≡ width_of d (depth x) → IsNode d x → first x % w ≡ 0
-node-to d w x q i = ap (λ (p : ℕ). p % w) i.aligned ∙ subst (λ (v : ℕ). i.place * v % w ≡ 0) q (mul-mod_left i.place w)
+pub node_to : (d w : ℕ) (x : Node) → w ≡ width_of d (depth x) → IsNode d x → first x % w ≡ 0
+node_to d w x q i = ap (λ (p : ℕ). p % w) i.aligned ∙ subst (λ (v : ℕ). i.place * v % w ≡ 0) q (mul-mod_left i.place w)
 
 -- the width halves at each level
 pub halved : (d e : ℕ) → e < d → width_of d e ≡ 2 * width_of d (suc e)
@@ -35,48 +35,48 @@ halved d e l =
     omega arith
 
 -- below 2 ^ d there is room for the whole width
-pub width-most : (d e : ℕ) → width_of d e ≤ 2 ^ d
-width-most d e = pow_mono (omega arith)
+pub width_most : (d e : ℕ) → width_of d e ≤ 2 ^ d
+width_most d e = pow_mono (omega arith)
 
-pub twins-from : (d w : ℕ) (x y : Node) → IsNode d x → w ≡ width_of d (depth x) → 0 < depth x → depth x ≡ depth y → first x % (2 * w) ≡ 0 → first x + w ≡ first y → Twins d x y
-twins-from d w x y i q l s z t =
+pub twins_from : (d w : ℕ) (x y : Node) → IsNode d x → w ≡ width_of d (depth x) → 0 < depth x → depth x ≡ depth y → first x % (2 * w) ≡ 0 → first x + w ≡ first y → Twins d x y
+twins_from d w x y i q l s z t =
     let e = depth x - 1 in
     let k : depth x ≡ suc e = omega arith in
     let h = halved d e (omega (arith, i.shallow)) in
     let q1 : w ≡ width_of d (suc e) = q ∙ ap (width_of d) k in
-    let p = nodeAt e (first x) in
+    let p = node_at e (first x) in
     record {
       parent = p;
-      isNode = node-from d (2 * w) p (omega (arith, i.shallow)) (omega arith) z i.inside;
+      is_node = node_from d (2 * w) p (omega (arith, i.shallow)) (omega arith) z i.inside;
       above = omega (arith, i.shallow);
-      onLeft = node-eq x (suc e) (first x) k refl;
-      onRight = node-eq y (suc e) (first x + width_of d (suc e)) (sym s ∙ k) (sym t ∙ ap (λ (v : ℕ). first x + v) q1);
+      on_left = node_eq x (suc e) (first x) k refl;
+      on_right = node_eq y (suc e) (first x + width_of d (suc e)) (sym s ∙ k) (sym t ∙ ap (λ (v : ℕ). first x + v) q1);
     }
 
 pub record Told (d w : ℕ) (x y : Node) : Type 0 where
-  pub isNode : IsNode d x
+  pub is_node : IsNode d x
   pub deep : 0 < depth x
   pub same : depth x ≡ depth y
   pub even : first x % (2 * w) ≡ 0
   pub next : first x + w ≡ first y
 
-pub twins-to : (d w : ℕ) (x y : Node) → w ≡ width_of d (depth x) → Twins d x y → Told d w x y
-twins-to d w x y q t =
+pub twins_to : (d w : ℕ) (x y : Node) → w ≡ width_of d (depth x) → Twins d x y → Told d w x y
+twins_to d w x y q t =
     let p = t.parent in
     let l = t.above in
-    let kx : depth x ≡ suc (depth p) = ap depth t.onLeft in
-    let ky : depth y ≡ suc (depth p) = ap depth t.onRight in
-    let fx : first x ≡ first p = ap first t.onLeft in
-    let fy : first y ≡ first p + width_of d (suc (depth p)) = ap first t.onRight in
+    let kx : depth x ≡ suc (depth p) = ap depth t.on_left in
+    let ky : depth y ≡ suc (depth p) = ap depth t.on_right in
+    let fx : first x ≡ first p = ap first t.on_left in
+    let fy : first y ≡ first p + width_of d (suc (depth p)) = ap first t.on_right in
     let q1 : w ≡ width_of d (suc (depth p)) = q ∙ ap (width_of d) kx in
     let h = halved d (depth p) l in
-    let o = t.isNode in
+    let o = t.is_node in
     let g : 2 * w ≡ width_of d (depth p) = omega arith in
-    let v : first x % (2 * w) ≡ 0 = ap (λ (z : ℕ). z % (2 * w)) fx ∙ node-to d (2 * w) p g o in
+    let v : first x % (2 * w) ≡ 0 = ap (λ (z : ℕ). z % (2 * w)) fx ∙ node_to d (2 * w) p g o in
     let m = multiple (first x) (2 * w) v in
     let a : first x ≡ first x / (2 * w) * 2 * w = omega arith in
     record {
-      isNode = record {
+      is_node = record {
         shallow = omega arith;
         place = first x / (2 * w) * 2;
         aligned = subst (λ (z : ℕ). first x ≡ first x / (2 * w) * 2 * z) q a;
@@ -90,4 +90,4 @@ twins-to d w x y q t =
 
 -- a node ends within the tree
 pub node_end : (d : ℕ) (x : Node) → IsNode d x → first x + width_of d (depth x) ≤ 2 ^ d
-node_end d x i = let r = range d 0 d 0 x (omega arith) (is-under d x i) in omega arith
+node_end d x i = let r = range d 0 d 0 x (omega arith) (under_of_node d x i) in omega arith

@@ -1,7 +1,7 @@
 -- The cover of a list of spent numbers: which nodes it has, in which order, and that no smaller one would do.
 use Rattle.std.specs.Prelude.{◌≡◌, ℕ, zero, suc, ◌+◌, ◌-◌, ◌*◌, ◌^◌, ◌<◌, ◌≤◌, Bool, true, false, ◌⊎◌, ◌↔◌, List, [], ◌∷◌, ◌++◌, length, nat_le, nat_lt}
 use Rattle.tree.specs.declared.Node.{Node}
-use Rattle.tree.specs.Nodes.{nodeAt, rootNode, width_of, IsNode, Covers, Child}
+use Rattle.tree.specs.Nodes.{node_at, root_node, width_of, IsNode, Covers, Child}
 
 -- x stands in the list
 abbrev pub In : {A : Type 0} → A → List A → Type 0
@@ -17,7 +17,7 @@ Free d ns x = (n : ℕ) → In n ns → Covers d x n → ⊥
 
 -- x is the root, or the child of a node that covers a spent number
 abbrev pub Picked : ℕ → List ℕ → Node → Type 0
-Picked d spent x = (x ≡ rootNode) ⊎ ((y : Node) × IsNode d y × Child d y x × Struck d spent y)
+Picked d spent x = (x ≡ root_node) ⊎ ((y : Node) × IsNode d y × Child d y x × Struck d spent y)
 
 -- ---- the cover, computed
 abbrev pub keep : Bool → ℕ → List ℕ → List ℕ
@@ -34,14 +34,14 @@ above m [] = []
 above m (n ∷ ns) = keep (nat_le m n) n (above m ns)
 
 -- the cover of the tree of h levels below the node (e, p), given the spent numbers under that node
-abbrev pub coverAt : ℕ → ℕ → ℕ → List ℕ → List Node
-coverAt e h p [] = nodeAt e p ∷ []
-coverAt e zero p (n ∷ ns) = []
-coverAt e (suc h) p (n ∷ ns) = coverAt (suc e) h p (below (p + 2 ^ h) (n ∷ ns)) ++ coverAt (suc e) h (p + 2 ^ h) (above (p + 2 ^ h) (n ∷ ns))
+abbrev pub cover_at : ℕ → ℕ → ℕ → List ℕ → List Node
+cover_at e h p [] = node_at e p ∷ []
+cover_at e zero p (n ∷ ns) = []
+cover_at e (suc h) p (n ∷ ns) = cover_at (suc e) h p (below (p + 2 ^ h) (n ∷ ns)) ++ cover_at (suc e) h (p + 2 ^ h) (above (p + 2 ^ h) (n ∷ ns))
 
 -- of the tree of d levels
 abbrev pub cover : ℕ → List ℕ → List Node
-cover d spent = coverAt 0 d 0 (below (2 ^ d) spent)
+cover d spent = cover_at 0 d 0 (below (2 ^ d) spent)
 
 -- ---- what is proved of it
 -- it holds the nodes that cover no spent number and are the root or have a parent that covers one, and no others

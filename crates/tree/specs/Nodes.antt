@@ -3,19 +3,19 @@ use Rattle.std.specs.Prelude.{◌≡◌, ℕ, suc, ◌+◌, ◌-◌, ◌*◌, �
 use Rattle.tree.specs.declared.Node.{Node}
 
 -- the levels below the root of the trees in use: their numbers are those below 2 ^ 16
-abbrev pub treeLevels : ℕ
-treeLevels = 16
+abbrev pub tree_levels : ℕ
+tree_levels = 16
 
 -- the code goes with trees of at most this many levels
-abbrev pub mostLevels : ℕ
-mostLevels = 24
+abbrev pub most_levels : ℕ
+most_levels = 24
 
 -- the node at a depth that begins at a first number
-abbrev pub nodeAt : ℕ → ℕ → Node
-nodeAt e p = record { depth = e; first = p }
+abbrev pub node_at : ℕ → ℕ → Node
+node_at e p = record { depth = e; first = p }
 
-abbrev pub rootNode : Node
-rootNode = nodeAt 0 0
+abbrev pub root_node : Node
+root_node = node_at 0 0
 
 -- how many numbers a node at depth e covers in a tree of d levels
 abbrev pub width_of : ℕ → ℕ → ℕ
@@ -34,21 +34,21 @@ Covers d x n = (x.first ≤ n) × (n < x.first + width_of d x.depth)
 
 -- x is a node, of a tree that the code goes with, and covers n: there is a way from x down to n
 pub record Above (d : ℕ) (x : Node) (n : ℕ) : Type 0 where
-  pub few : d ≤ mostLevels
-  pub isNode : IsNode d x
+  pub few : d ≤ most_levels
+  pub is_node : IsNode d x
   pub covers : Covers d x n
 
 -- the two children of a node
 abbrev pub left_of : Node → Node
-left_of x = nodeAt (suc x.depth) x.first
+left_of x = node_at (suc x.depth) x.first
 
-abbrev pub rightOf : ℕ → Node → Node
-rightOf d x = nodeAt (suc x.depth) (x.first + width_of d (suc x.depth))
+abbrev pub right_of : ℕ → Node → Node
+right_of d x = node_at (suc x.depth) (x.first + width_of d (suc x.depth))
 
 -- x is a node, of a tree that the code goes with, and no leaf
 pub record HasChildren (d : ℕ) (x : Node) : Type 0 where
-  pub few : d ≤ mostLevels
-  pub isNode : IsNode d x
+  pub few : d ≤ most_levels
+  pub is_node : IsNode d x
   pub inner : x.depth < d
 
 -- x is the left or the right child of y
@@ -58,7 +58,7 @@ Child d y x = (x.depth ≡ suc y.depth) × ((x.first ≡ y.first) ⊎ (x.first �
 -- x and y are the two children of one node of the tree, x on the left
 pub record Twins (d : ℕ) (x y : Node) : Type 0 where
   pub parent : Node
-  pub isNode : IsNode d parent
+  pub is_node : IsNode d parent
   pub above : parent.depth < d
-  pub onLeft : x ≡ left_of parent
-  pub onRight : y ≡ rightOf d parent
+  pub on_left : x ≡ left_of parent
+  pub on_right : y ≡ right_of d parent

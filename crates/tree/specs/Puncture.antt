@@ -1,7 +1,7 @@
 -- What spending one more number does to the cover: its node gives way to the siblings on the way down to the number.
 use Rattle.std.specs.Prelude.{◌≡◌, ℕ, zero, suc, ◌+◌, ◌-◌, ◌^◌, ◌≤◌, Bool, true, false, ◌↔◌, List, [], ◌∷◌, ◌++◌, length, replicate, Some, None, Option, nat_lt}
 use Rattle.tree.specs.declared.Node.{Node}
-use Rattle.tree.specs.Nodes.{mostLevels, nodeAt, rootNode, IsNode, Covers, Child, Above}
+use Rattle.tree.specs.Nodes.{most_levels, node_at, root_node, IsNode, Covers, Child, Above}
 use Rattle.tree.specs.Cover.{In, Ordered, cover}
 
 -- where the child on the way begins: at p on the left, at the middle m on the right
@@ -11,37 +11,37 @@ turn false p m = m
 
 -- the other child's place beside the siblings further down: after them where the way goes left, else before
 abbrev pub flank : Bool → ℕ → ℕ → ℕ → List Node → List Node
-flank true e p m xs = xs ++ (nodeAt e m ∷ [])
-flank false e p m xs = nodeAt e p ∷ xs
+flank true e p m xs = xs ++ (node_at e m ∷ [])
+flank false e p m xs = node_at e p ∷ xs
 
 -- the siblings of the nodes on the way from (e, p) down h levels to n, in increasing order
-abbrev pub siblingsOn : ℕ → ℕ → ℕ → ℕ → List Node
-siblingsOn e zero p n = []
-siblingsOn e (suc h) p n = flank (nat_lt n (p + 2 ^ h)) (suc e) p (p + 2 ^ h) (siblingsOn (suc e) h (turn (nat_lt n (p + 2 ^ h)) p (p + 2 ^ h)) n)
+abbrev pub siblings_on : ℕ → ℕ → ℕ → ℕ → List Node
+siblings_on e zero p n = []
+siblings_on e (suc h) p n = flank (nat_lt n (p + 2 ^ h)) (suc e) p (p + 2 ^ h) (siblings_on (suc e) h (turn (nat_lt n (p + 2 ^ h)) p (p + 2 ^ h)) n)
 
 -- from the node x of a tree of d levels down to the leaf n
-abbrev pub siblingsFrom : ℕ → Node → ℕ → List Node
-siblingsFrom d x n = siblingsOn x.depth (d - x.depth) x.first n
+abbrev pub siblings_from : ℕ → Node → ℕ → List Node
+siblings_from d x n = siblings_on x.depth (d - x.depth) x.first n
 
 -- what listing them answers, and what a row of as many nodes as the most levels holds then
 abbrev pub Listed : ℕ → Node → ℕ → Option ℕ → List Node → Type 0
-Listed d x n (Some k) row = Above d x n × (k ≡ d - x.depth) × (row ≡ siblingsFrom d x n ++ replicate (mostLevels - k) rootNode)
-Listed d x n None row = (Above d x n → ⊥) × (row ≡ replicate mostLevels rootNode)
+Listed d x n (Some k) row = Above d x n × (k ≡ d - x.depth) × (row ≡ siblings_from d x n ++ replicate (most_levels - k) root_node)
+Listed d x n None row = (Above d x n → ⊥) × (row ≡ replicate most_levels root_node)
 
 -- ---- what is proved of them
 -- y does not cover n, and is a child of a node that covers n and is not above x
 pub record Beside (d : ℕ) (x : Node) (n : ℕ) (y : Node) : Type 0 where
   pub apart : Covers d y n → ⊥
   pub parent : Node
-  pub isNode : IsNode d parent
+  pub is_node : IsNode d parent
   pub child : Child d parent y
   pub inside : x.depth ≤ parent.depth
-  pub onWay : Covers d parent n
+  pub on_way : Covers d parent n
 
 pub record Siblings (d : ℕ) (x : Node) (n : ℕ) : Type 0 where
-  pub count : length (siblingsFrom d x n) ≡ d - x.depth
-  pub order : Ordered d (siblingsFrom d x n)
-  pub members : (y : Node) → IsNode d y → In y (siblingsFrom d x n) ↔ Beside d x n y
+  pub count : length (siblings_from d x n) ≡ d - x.depth
+  pub order : Ordered d (siblings_from d x n)
+  pub members : (y : Node) → IsNode d y → In y (siblings_from d x n) ↔ Beside d x n y
 
 -- the list holds those nodes and no others, in order, one for each level below x
 abbrev pub SiblingsAre : Type 0
@@ -56,9 +56,9 @@ pub record Replaced (before after : List Node) (x : Node) (xs : List Node) : Typ
 
 -- spending n puts the siblings in the place of the node that covered n, and changes nothing else
 abbrev pub Punctured : Type 0
-Punctured = (d : ℕ) (spent : List ℕ) (n : ℕ) (x : Node) → In x (cover d spent) → Covers d x n → Replaced (cover d spent) (cover d (n ∷ spent)) x (siblingsFrom d x n)
+Punctured = (d : ℕ) (spent : List ℕ) (n : ℕ) (x : Node) → In x (cover d spent) → Covers d x n → Replaced (cover d spent) (cover d (n ∷ spent)) x (siblings_from d x n)
 
 -- the same where the list is cut at x already
 abbrev pub PuncturedAt : Type 0
 PuncturedAt = (d : ℕ) (spent : List ℕ) (n : ℕ) (x : Node) (front back : List Node) → cover d spent ≡ front ++ (x ∷ back) → Covers d x n →
-    cover d (n ∷ spent) ≡ front ++ (siblingsFrom d x n ++ back)
+    cover d (n ∷ spent) ≡ front ++ (siblings_from d x n ++ back)

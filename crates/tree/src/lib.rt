@@ -3,9 +3,9 @@
 
 ghost use Rattle.std.specs.Prelude.{◌≡◌, ℕ, ◌+◌, ◌^◌, ◌<◌, ◌≤◌, T, length, Some, None};
 ghost use Rattle.tree.specs.declared.Node.{Node};
-ghost use Rattle.tree.specs.Nodes.{treeLevels, mostLevels, width_of, IsNode, Covers, HasChildren, left_of, rightOf, Twins};
+ghost use Rattle.tree.specs.Nodes.{tree_levels, most_levels, width_of, IsNode, Covers, HasChildren, left_of, right_of, Twins};
 ghost use Rattle.tree.specs.Cover.{Characterised, InOrder, Exactly, AtMostOne, Exhausted, Least, SameSet, Few};
-ghost use Rattle.tree.specs.Puncture.{siblingsOn, siblingsFrom, Listed, SiblingsAre, Punctured, PuncturedAt};
+ghost use Rattle.tree.specs.Puncture.{siblings_on, siblings_from, Listed, SiblingsAre, Punctured, PuncturedAt};
 ghost use Rattle.tree.specs.Values.{ValuesAre, Composed, KeyFrom, Agreed, PuncturedValues, KeysOf};
 ghost use Rattle.tree.specs.Examples.{Examples};
 
@@ -28,10 +28,10 @@ pub struct Node {
 /// The sizes in use are the definitions': the trees that servers keep have no more levels than any tree may have, and a row
 /// has a place for each level of any tree, so that the siblings on every way down fit.
 pub fn sizes_stand() -> u8
-    ensures levels { LEVELS ≡ treeLevels }
-    ensures most { MOST_LEVELS ≡ mostLevels }
+    ensures levels { LEVELS ≡ tree_levels }
+    ensures most { MOST_LEVELS ≡ most_levels }
     ensures within { LEVELS ≤ MOST_LEVELS }
-    ensures row { (d n : ℕ) (x : Node) → d ≤ MOST_LEVELS → length (siblingsFrom d x n) ≤ ROW }
+    ensures row { (d n : ℕ) (x : Node) → d ≤ MOST_LEVELS → length (siblings_from d x n) ≤ ROW }
 {
     0
 }
@@ -40,8 +40,8 @@ pub fn sizes_stand() -> u8
 impl Node {
     /// How many numbers the node covers; 0 where the tree has no such depth.
     pub fn width(&self, height: u8) -> u32
-        ensures within { height ≤ mostLevels → self.now.depth ≤ height → result ≡ width_of height self.now.depth }
-        ensures without { (height ≤ mostLevels → self.now.depth ≤ height → ⊥) → result ≡ 0 }
+        ensures within { height ≤ most_levels → self.now.depth ≤ height → result ≡ width_of height self.now.depth }
+        ensures without { (height ≤ most_levels → self.now.depth ≤ height → ⊥) → result ≡ 0 }
     {
         if height > MOST_LEVELS || self.depth > height {
             return 0;
@@ -51,8 +51,8 @@ impl Node {
 
     /// Whether this is a node of the tree.
     pub fn is_node(&self, height: u8) -> bool
-        ensures only { T result → (height ≤ mostLevels) × IsNode height self.now }
-        ensures all { height ≤ mostLevels → IsNode height self.now → T result }
+        ensures only { T result → (height ≤ most_levels) × IsNode height self.now }
+        ensures all { height ≤ most_levels → IsNode height self.now → T result }
     {
         if height > MOST_LEVELS || self.depth > height {
             return false;
@@ -62,8 +62,8 @@ impl Node {
 
     /// Whether this is a node of the tree and covers `n`.
     pub fn covers(&self, height: u8, n: u32) -> bool
-        ensures only { T result → (height ≤ mostLevels) × IsNode height self.now × Covers height self.now n }
-        ensures all { height ≤ mostLevels → IsNode height self.now → Covers height self.now n → T result }
+        ensures only { T result → (height ≤ most_levels) × IsNode height self.now × Covers height self.now n }
+        ensures all { height ≤ most_levels → IsNode height self.now → Covers height self.now n → T result }
     {
         self.is_node(height) && self.first <= n && n - self.first < self.width(height)
     }
@@ -83,7 +83,7 @@ impl Node {
 
     /// The right child, where this is a node of the tree and no leaf.
     pub fn right(&self, height: u8) -> Option<Node>
-        ensures { elim result [ Some x ↦ HasChildren height self.now × (x ≡ rightOf height self.now) | None ↦ (HasChildren height self.now → ⊥) ] }
+        ensures { elim result [ Some x ↦ HasChildren height self.now × (x ≡ right_of height self.now) | None ↦ (HasChildren height self.now → ⊥) ] }
     {
         let left = self.left(height)?;
         Some(Node {
@@ -94,8 +94,8 @@ impl Node {
 
     /// Whether this and `next` are the left and the right child of one node of the tree.
     pub fn has_sibling(&self, height: u8, next: &Node) -> bool
-        ensures only { T result → (height ≤ mostLevels) × Twins height self.now next.now }
-        ensures all { height ≤ mostLevels → Twins height self.now next.now → T result }
+        ensures only { T result → (height ≤ most_levels) × Twins height self.now next.now }
+        ensures all { height ≤ most_levels → Twins height self.now next.now → T result }
     {
         if self.depth == 0 || self.depth != next.depth || !self.is_node(height) {
             return false;
@@ -122,9 +122,9 @@ impl Node {
 // Fills the row with the siblings on the way from (depth, first) down to `n`, one for each level: those on the left of
 // the way from the front, those on its right from the back.
 fn list_siblings(row: &mut [Node], depth: u8, first: u32, n: u32)
-    requires levels { depth + length row.old ≤ mostLevels }
-    requires numbers { first + 2 ^ length row.old ≤ 2 ^ mostLevels }
-    ensures { row.new ≡ siblingsOn depth (length row.old) first n }
+    requires levels { depth + length row.old ≤ most_levels }
+    requires numbers { first + 2 ^ length row.old ≤ 2 ^ most_levels }
+    ensures { row.new ≡ siblings_on depth (length row.old) first n }
 {
     let mut e = depth;
     let mut p = first;

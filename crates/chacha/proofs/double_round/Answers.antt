@@ -1,6 +1,6 @@
-use Rattle.chacha.specs.Cipher.{columnRounds, diagonalRounds}
+use Rattle.chacha.specs.Cipher.{column_rounds, diagonal_rounds}
 use Rattle.chacha.proofs.double_round.Goals as goal
 
 pub returns : goal.returns
-unfolding columnRounds diagonalRounds
+unfolding column_rounds diagonal_rounds
 returns c = cc

@@ -1,37 +1,37 @@
 use Rattle.std.proofs.Common.{◌≡◌, ℕ, suc, ◌+◌, ◌^◌, ◌<◌, ◌≤◌, true, leb, [], length, get_or, None, Err, sym, ap, ◌∙◌, subst, arith}
 use Rattle.std.proofs.lemmas.Result.{err_from_is_err_and}
 use Rattle.std.proofs.lemmas.Bool.{and_parts, leb-true}
-use Rattle.tree.specs.Nodes.{nodeAt, IsNode}
-use Rattle.chain.specs.Reading.{walk, mayFollow}
-use Rattle.chain.specs.Listing.{tally_of, noneYet, row_of}
-use Rattle.chain.proofs.Order.{end-within, end_after, tested-node}
+use Rattle.tree.specs.Nodes.{node_at, IsNode}
+use Rattle.chain.specs.Reading.{walk, may_follow}
+use Rattle.chain.specs.Listing.{tally_of, none_yet, row_of}
+use Rattle.chain.proofs.Order.{end_within, end_after, tested_node}
 use Rattle.chain.proofs.Walks.{laid}
-use Rattle.chain.proofs.Going.{ended, ended-row, far, spoilt, misplaced, onward, renamed, record-bad, record-good, no-chain}
+use Rattle.chain.proofs.Going.{ended, ended_row, far, spoilt, misplaced, onward, renamed, record_bad, record_good, no_chain}
 use Rattle.chain.proofs.walk_along.Goals as goal
 
 pub returns-then-next-count : goal.returns-then-next-count
 returns-then-next-count g c =
     let s = g.D.ReadSlots.slots c.args.device.now in
     let w = walk 16 (suc (2 ^ 16)) s 0 None 0 c.args.head.now.first in
-    let t = noneYet c.args.head.now.issued in
+    let t = none_yet c.args.head.now.issued in
     let past : length s ≤ c.loop-next.next = subst (λ (k : ℕ). k ≤ c.loop-next.next) c.count-count.ensures c.if-next-count.true in
     let is : Err c.bad_link.result ≡ tally_of 16 c.args.wanted t 0 w = ap Err c.bad_link.ensures ∙ sym (far c.loop-next.invariant.0 c.loop-next-test.true past) in
-    record { is = is; marks = λ xs q. no-chain 16 c.args.wanted t 0 w c.bad_link.result xs _ _ is q }
+    record { is = is; marks = λ xs q. no_chain 16 c.args.wanted t 0 w c.bad_link.result xs _ _ is q }
 
 pub returns-in_err-fields : goal.returns-in_err-fields
 returns-in_err-fields g c =
     let s = g.D.ReadSlots.slots c.args.device.now in
     let w = walk 16 (suc (2 ^ 16)) s 0 None 0 c.args.head.now.first in
-    let t = noneYet c.args.head.now.issued in
+    let t = none_yet c.args.head.now.issued in
     let i = c.loop-next.next in
     let here : i < length s = subst (λ (k : ℕ). i < k) c.count-count.ensures c.if-next-count.false in
     let h = c.in_err-fields.field-0.0 in
-    let b = record-bad 16 s (g.D.ReadSlots.powered c.args.device.now) i h c.requires here c.in_err-fields.ensures in
+    let b = record_bad 16 s (g.D.ReadSlots.powered c.args.device.now) i h c.requires here c.in_err-fields.ensures in
     let p = err_from_is_err_and c.from_residual.result c.from_residual.ensures.1 in
     let e = spoilt c.loop-next.invariant.0 c.loop-next-test.true here b.0 in
     let halt : p.0 ≡ h = p.2 in
     let is : Err p.0 ≡ tally_of 16 c.args.wanted t 0 w = ap Err (halt ∙ b.1) ∙ sym e in
-    record { is = p.1 ∙ is; marks = λ xs q. no-chain 16 c.args.wanted t 0 w p.0 xs _ _ is q }
+    record { is = p.1 ∙ is; marks = λ xs q. no_chain 16 c.args.wanted t 0 w p.0 xs _ _ is q }
 
 pub may_follow-requires : goal.may_follow-requires
 may_follow-requires g c =
@@ -39,22 +39,22 @@ may_follow-requires g c =
     let i = c.loop-next.next in
     let f = c.in_ok-fields.fields in
     let here : i < length s = subst (λ (k : ℕ). i < k) c.count-count.ensures c.if-next-count.false in
-    let ok = record-good 16 s (g.D.ReadSlots.powered c.args.device.now) i f c.requires here c.in_ok-fields.ensures in
-    (c.loop-next.invariant.0.preceding, tested-node 16 f.depth f.first (laid 16 (get_or s i []) f ok).node)
+    let ok = record_good 16 s (g.D.ReadSlots.powered c.args.device.now) i f c.requires here c.in_ok-fields.ensures in
+    (c.loop-next.invariant.0.preceding, tested_node 16 f.depth f.first (laid 16 (get_or s i []) f ok).node)
 
 pub returns-then-not-may_follow : goal.returns-then-not-may_follow
 returns-then-not-may_follow g c =
     let s = g.D.ReadSlots.slots c.args.device.now in
     let w = walk 16 (suc (2 ^ 16)) s 0 None 0 c.args.head.now.first in
-    let t = noneYet c.args.head.now.issued in
+    let t = none_yet c.args.head.now.issued in
     let i = c.loop-next.next in
     let f = c.in_ok-fields.fields in
     let here : i < length s = subst (λ (k : ℕ). i < k) c.count-count.ensures c.if-next-count.false in
-    let ok = record-good 16 s (g.D.ReadSlots.powered c.args.device.now) i f c.requires here c.in_ok-fields.ensures in
+    let ok = record_good 16 s (g.D.ReadSlots.powered c.args.device.now) i f c.requires here c.in_ok-fields.ensures in
     let e = misplaced c.loop-next.invariant.0 f c.loop-next-test.true here ok (sym c.may_follow.ensures ∙ c.if-not-may_follow.true) in
     let r = c.bad_link-then-not-may_follow.result in
     let is : Err r ≡ tally_of 16 c.args.wanted t 0 w = ap Err c.bad_link-then-not-may_follow.ensures ∙ sym e in
-    record { is = is; marks = λ xs q. no-chain 16 c.args.wanted t 0 w r xs _ _ is q }
+    record { is = is; marks = λ xs q. no_chain 16 c.args.wanted t 0 w r xs _ _ is q }
 
 pub with-more-requires : goal.with-more-requires
 with-more-requires g c =
@@ -62,8 +62,8 @@ with-more-requires g c =
     let i = c.loop-next.next in
     let f = c.in_ok-fields.fields in
     let here : i < length s = subst (λ (k : ℕ). i < k) c.count-count.ensures c.if-next-count.false in
-    let ok = record-good 16 s (g.D.ReadSlots.powered c.args.device.now) i f c.requires here c.in_ok-fields.ensures in
-    let node : IsNode 16 (nodeAt f.depth f.first) = tested-node 16 f.depth f.first (laid 16 (get_or s i []) f ok).node in
+    let ok = record_good 16 s (g.D.ReadSlots.powered c.args.device.now) i f c.requires here c.in_ok-fields.ensures in
+    let node : IsNode 16 (node_at f.depth f.first) = tested_node 16 f.depth f.first (laid 16 (get_or s i []) f ok).node in
     let start : c.loop-next.from ≤ f.first = leb-true _ _ (and_parts (leb c.loop-next.from f.first) _ (sym c.may_follow.ensures ∙ c.if-not-may_follow.false)).0 in
     (node, omega (arith, c.loop-next.invariant.0.few, node.inside))
 
@@ -73,12 +73,12 @@ loop-next-smaller g c =
     let i = c.loop-next.next in
     let f = c.in_ok-fields.fields in
     let here : i < length s = subst (λ (k : ℕ). i < k) c.count-count.ensures c.if-next-count.false in
-    let ok = record-good 16 s (g.D.ReadSlots.powered c.args.device.now) i f c.requires here c.in_ok-fields.ensures in
-    let node : IsNode 16 (nodeAt f.depth f.first) = tested-node 16 f.depth f.first (laid 16 (get_or s i []) f ok).node in
+    let ok = record_good 16 s (g.D.ReadSlots.powered c.args.device.now) i f c.requires here c.in_ok-fields.ensures in
+    let node : IsNode 16 (node_at f.depth f.first) = tested_node 16 f.depth f.first (laid 16 (get_or s i []) f ok).node in
     let start : c.loop-next.from ≤ f.first = leb-true _ _ (and_parts (leb c.loop-next.from f.first) _ (sym c.may_follow.ensures ∙ c.if-not-may_follow.false)).0 in
     let width = c.width.ensures.within (omega arith) node.shallow in
-    let a = end-within 16 (nodeAt f.depth f.first) node in
-    let b = end_after 16 (nodeAt f.depth f.first) in
+    let a = end_within 16 (node_at f.depth f.first) node in
+    let b = end_after 16 (node_at f.depth f.first) in
     omega (arith, a, b, width, start)
 
 pub loop-next-preserved : goal.loop-next-preserved
@@ -87,9 +87,9 @@ loop-next-preserved g c =
     let i = c.loop-next.next in
     let f = c.in_ok-fields.fields in
     let here : i < length s = subst (λ (k : ℕ). i < k) c.count-count.ensures c.if-next-count.false in
-    let ok = record-good 16 s (g.D.ReadSlots.powered c.args.device.now) i f c.requires here c.in_ok-fields.ensures in
-    let node : IsNode 16 (nodeAt f.depth f.first) = tested-node 16 f.depth f.first (laid 16 (get_or s i []) f ok).node in
-    let may : mayFollow 16 c.loop-next.from c.loop-next.before (nodeAt f.depth f.first) ≡ true = sym c.may_follow.ensures ∙ c.if-not-may_follow.false in (
+    let ok = record_good 16 s (g.D.ReadSlots.powered c.args.device.now) i f c.requires here c.in_ok-fields.ensures in
+    let node : IsNode 16 (node_at f.depth f.first) = tested_node 16 f.depth f.first (laid 16 (get_or s i []) f ok).node in
+    let may : may_follow 16 c.loop-next.from c.loop-next.before (node_at f.depth f.first) ≡ true = sym c.may_follow.ensures ∙ c.if-not-may_follow.false in (
       renamed (f.first + c.width.result) c.with-more.result c.mark.new.row
           (ap (λ (k : ℕ). f.first + k) (c.width.ensures.within (omega arith) node.shallow)) c.with-more.ensures c.mark.ensures.is
           (onward c.loop-next.invariant.0 f c.loop-next-test.true here ok may),
@@ -99,5 +99,5 @@ loop-next-preserved g c =
 pub returns : goal.returns
 returns g c = record {
   is = sym (ended c.loop-next.invariant.0 c.loop-next-test.false);
-  marks = λ xs q. sym (ended-row c.loop-next.invariant.0 c.loop-next-test.false) ∙ ap (row_of c.args.marks.now) q;
+  marks = λ xs q. sym (ended_row c.loop-next.invariant.0 c.loop-next-test.false) ∙ ap (row_of c.args.marks.now) q;
 }

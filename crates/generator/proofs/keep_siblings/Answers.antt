@@ -2,7 +2,7 @@ use Rattle.std.proofs.Common.{◌≡◌, ℕ, ◌+◌, ◌-◌, ◌<◌, true, f
 use Rattle.std.proofs.lemmas.Bool.{ne_eqb}
 use Rattle.tree.specs.Values.{bit, way, follow}
 use Rattle.generator.proofs.Counts.{fewer, one_more, all_made}
-use Rattle.generator.proofs.Rows.{laid, laid-left, laid-right, laid-all, walked, turned-to}
+use Rattle.generator.proofs.Rows.{laid, laid_left, laid_right, laid_all, walked, turned_to}
 use Rattle.generator.proofs.keep_siblings.Goals as goal
 
 pub put_value-requires : goal.put_value-requires
@@ -23,8 +23,8 @@ loop-lo-preserved-then-to_right g c =
     let l : lo < hi = c.loop-lo-test.true in
     let b : bit (hi - lo - 1) n ≡ true = eq-eqb _ _ c.if-to_right.true in
     let w = walked x v c.turn.new.value n (hi - lo) (hi - (lo + 1)) (omega arith) (omega arith) c.turn.ensures.child in
-    let t = turned-to x v c.turn.new.value n (hi - lo - 1) true b c.turn.ensures.child in
-    let r = laid-right x row v c.turn.new.left n lo hi l i.1 i.2 c.turn.array_long2 c.turn.ensures.one b in
+    let t = turned_to x v c.turn.new.value n (hi - lo - 1) true b c.turn.ensures.child in
+    let r = laid_right x row v c.turn.new.left n lo hi l i.1 i.2 c.turn.array_long2 c.turn.ensures.one b in
     (omega arith, i.1, c.put_value.array_long, one_more (hi - lo) (hi - (lo + 1)) n _ _ i.3 (omega arith) c.turn.ensures.counted, w ∙ i.4, ap₂ (λ (a u : List ℕ). laid x a u n (lo + 1) hi) c.put_value.ensures t ∙ r ∙ i.5)
 
 pub loop-lo-preserved : goal.loop-lo-preserved
@@ -39,8 +39,8 @@ loop-lo-preserved g c =
     let l : lo < hi = c.loop-lo-test.true in
     let b : bit (hi - lo - 1) n ≡ false = ne_eqb _ _ c.if-to_right.false in
     let w = walked x v c.turn.new.value n (hi - lo) (hi - 1 - lo) (omega arith) (omega arith) c.turn.ensures.child in
-    let t = turned-to x v c.turn.new.value n (hi - lo - 1) false b c.turn.ensures.child in
-    let r = laid-left x row v c.turn.new.right n lo hi l i.1 i.2 c.turn.array_long3 c.turn.ensures.two b in
+    let t = turned_to x v c.turn.new.value n (hi - lo - 1) false b c.turn.ensures.child in
+    let r = laid_left x row v c.turn.new.right n lo hi l i.1 i.2 c.turn.array_long3 c.turn.ensures.two b in
     (omega arith, omega arith, c.put_value-else-to_right.array_long, one_more (hi - lo) (hi - 1 - lo) n _ _ i.3 (omega arith) c.turn.ensures.counted, w ∙ i.4, ap₂ (λ (a u : List ℕ). laid x a u n lo (hi - 1)) c.put_value-else-to_right.ensures t ∙ r ∙ i.5)
 
 pub returns : goal.returns
@@ -51,4 +51,4 @@ returns g c =
     let q : lo ≡ hi = omega arith in
     let z : hi - lo ≡ 0 = omega arith in
     let i = c.loop-lo.invariant in
-    record { key = ap (λ (j : ℕ). follow x c.loop-lo.value (way j 0 c.args.n)) (sym z) ∙ i.4; calls = all_made (hi - lo) c.args.n _ i.3 z; row = sym (laid-all x c.loop-lo.row c.loop-lo.value c.args.n lo hi q) ∙ i.5 }
+    record { key = ap (λ (j : ℕ). follow x c.loop-lo.value (way j 0 c.args.n)) (sym z) ∙ i.4; calls = all_made (hi - lo) c.args.n _ i.3 z; row = sym (laid_all x c.loop-lo.row c.loop-lo.value c.args.n lo hi q) ∙ i.5 }

@@ -1,10 +1,10 @@
 use Rattle.std.proofs.Common.{◌<◌, length, arith}
 use Rattle.std.proofs.lemmas.Result.{err_from_is_err_and}
-use Rattle.issuing.proofs.Ended.{head-cut}
+use Rattle.issuing.proofs.Ended.{head_cut}
 use Rattle.issuing.proofs.issue_found.Goals as goal
 
 pub returns-in_err-write_at : goal.returns-in_err-write_at
 returns-in_err-write_at g c =
     let p = err_from_is_err_and c.from_residual-in_err-write_at.result c.from_residual-in_err-write_at.ensures.1 in
     let some : 0 < length (g.D.ReadSlots.slots c.args.d.now) = omega (arith, c.requires.within) in
-    rw (p.1, p.2) (head-cut _ _ _ _ _ _ _ _ _ _ _ _ some c.in_ok-next_head.ensures.1 c.in_err-write_at.ensures)
+    rw (p.1, p.2) (head_cut _ _ _ _ _ _ _ _ _ _ _ _ some c.in_ok-next_head.ensures.1 c.in_err-write_at.ensures)

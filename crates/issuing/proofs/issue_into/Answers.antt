@@ -1,17 +1,17 @@
 use Rattle.std.proofs.lemmas.Result.{err_from_is_err_and}
-use Rattle.rules.specs.Kits.{kitOf}
-use Rattle.issuing.proofs.Issued.{stopped, entry-err, read-stops, exhausted, not_none, may, ends}
+use Rattle.rules.specs.Kits.{kit_of}
+use Rattle.issuing.proofs.Issued.{stopped, entry_err, read_stops, exhausted, not_none, may, ends}
 use Rattle.issuing.proofs.issue_into.Goals as goal
 
 pub returns-in_err-may_issue : goal.returns-in_err-may_issue
 returns-in_err-may_issue g c =
     let p = err_from_is_err_and c.from_residual.result c.from_residual.ensures.1 in
-    rw (p.1, p.2) (stopped _ _ _ _ _ _ _ (entry-err (kitOf (g.G.Generator.expansion c.args.g.now) (g.G.Generator.code c.args.g.now) (g.S.Sealer.sealing c.args.s.now) (g.S.Sealer.overhead c.args.s.now) (g.S.Sealer.number c.args.s.now)) _ _ _ _ _ _ c.in_err-may_issue.ensures))
+    rw (p.1, p.2) (stopped _ _ _ _ _ _ _ (entry_err (kit_of (g.G.Generator.expansion c.args.g.now) (g.G.Generator.code c.args.g.now) (g.S.Sealer.sealing c.args.s.now) (g.S.Sealer.overhead c.args.s.now) (g.S.Sealer.number c.args.s.now)) _ _ _ _ _ _ c.in_err-may_issue.ensures))
 
 pub returns-in_err-survey : goal.returns-in_err-survey
 returns-in_err-survey g c =
     let p = err_from_is_err_and c.from_residual-in_err-survey.result c.from_residual-in_err-survey.ensures.1 in
-    rw (p.1, p.2) (read-stops _ _ _ _ _ _ c.in_ok-may_issue.ensures _ _ c.number.ensures c.number-2.ensures _ c.in_err-survey.ensures.is)
+    rw (p.1, p.2) (read_stops _ _ _ _ _ _ c.in_ok-may_issue.ensures _ _ c.number.ensures c.number-2.ensures _ c.in_err-survey.ensures.is)
 
 pub returns-then-survey-ge-LEAVES : goal.returns-then-survey-ge-LEAVES
 returns-then-survey-ge-LEAVES g c =
@@ -19,7 +19,7 @@ returns-then-survey-ge-LEAVES g c =
 
 pub issue_found-requires : goal.issue_found-requires
 issue_found-requires g c =
-    may (kitOf (g.G.Generator.expansion c.args.g.now) (g.G.Generator.code c.args.g.now) (g.S.Sealer.sealing c.args.s.now) (g.S.Sealer.overhead c.args.s.now) (g.S.Sealer.number c.args.s.now)) _ _ _ _ _ c.in_ok-may_issue.ensures _ _ c.number.ensures c.number-2.ensures _ c.in_ok-survey.ensures.is c.in_ok-survey.ensures.laws c.if-survey-ge-LEAVES.false _ c.in-Some.is
+    may (kit_of (g.G.Generator.expansion c.args.g.now) (g.G.Generator.code c.args.g.now) (g.S.Sealer.sealing c.args.s.now) (g.S.Sealer.overhead c.args.s.now) (g.S.Sealer.number c.args.s.now)) _ _ _ _ _ c.in_ok-may_issue.ensures _ _ c.number.ensures c.number-2.ensures _ c.in_ok-survey.ensures.is c.in_ok-survey.ensures.laws c.if-survey-ge-LEAVES.false _ c.in-Some.is
 
 pub returns-in-Some : goal.returns-in-Some
 returns-in-Some g c =
@@ -27,4 +27,4 @@ returns-in-Some g c =
 
 pub returns-in-None : goal.returns-in-None
 returns-in-None g c =
-    absurd (not_none (kitOf (g.G.Generator.expansion c.args.g.now) (g.G.Generator.code c.args.g.now) (g.S.Sealer.sealing c.args.s.now) (g.S.Sealer.overhead c.args.s.now) (g.S.Sealer.number c.args.s.now)) _ _ _ _ _ c.in_ok-may_issue.ensures _ _ c.number.ensures c.number-2.ensures _ c.in_ok-survey.ensures.is c.in_ok-survey.ensures.laws c.if-survey-ge-LEAVES.false c.in-None.is)
+    absurd (not_none (kit_of (g.G.Generator.expansion c.args.g.now) (g.G.Generator.code c.args.g.now) (g.S.Sealer.sealing c.args.s.now) (g.S.Sealer.overhead c.args.s.now) (g.S.Sealer.number c.args.s.now)) _ _ _ _ _ c.in_ok-may_issue.ensures _ _ c.number.ensures c.number-2.ensures _ c.in_ok-survey.ensures.is c.in_ok-survey.ensures.laws c.if-survey-ge-LEAVES.false c.in-None.is)

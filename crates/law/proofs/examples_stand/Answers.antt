@@ -1,5 +1,5 @@
-use Rattle.law.proofs.Worked.{all-examples}
+use Rattle.law.proofs.Worked.{all_examples}
 use Rattle.law.proofs.examples_stand.Goals as goal
 
 pub returns : goal.returns
-returns c = all-examples
+returns c = all_examples

@@ -1,23 +1,23 @@
 use Rattle.std.proofs.Common.{◌≡◌, ◌+◌, true, ◌&&◌, eqb, get_or, drop, sym, ap, ◌∙◌}
 use Rattle.std.proofs.lemmas.List.{at_drop_more, drop_all}
 use Rattle.std.proofs.lemmas.Bool.{and_left, ne_eqb, eq-eqb}
-use Rattle.layout.specs.Records.{allZero}
+use Rattle.layout.specs.Records.{all_zero}
 use Rattle.layout.proofs.is_blank.Goals as goal
 
 pub returns-then-b-ne0 : goal.returns-then-b-ne0
 returns-then-b-ne0 c =
     let i = c.loop-b.b-index in
     let xs = c.args.bytes.now in
-    let e : allZero (drop i xs) ≡ (eqb (get_or xs i 0) 0 && allZero (drop (i + 1) xs)) = at_drop_more allZero xs i 0 c.loop-b-test.true in
+    let e : all_zero (drop i xs) ≡ (eqb (get_or xs i 0) 0 && all_zero (drop (i + 1) xs)) = at_drop_more all_zero xs i 0 c.loop-b-test.true in
     sym (sym c.loop-b.invariant ∙ e ∙ and_left _ _ (ne_eqb _ _ c.if-b-ne0.true))
 
 pub loop-b-preserved : goal.loop-b-preserved
 loop-b-preserved c =
     let i = c.loop-b.b-index in
     let xs = c.args.bytes.now in
-    let e : allZero (drop i xs) ≡ (eqb (get_or xs i 0) 0 && allZero (drop (i + 1) xs)) = at_drop_more allZero xs i 0 c.loop-b-test.true in
+    let e : all_zero (drop i xs) ≡ (eqb (get_or xs i 0) 0 && all_zero (drop (i + 1) xs)) = at_drop_more all_zero xs i 0 c.loop-b-test.true in
     let t : eqb (get_or xs i 0) 0 ≡ true = eq-eqb _ _ c.if-b-ne0.false in
     sym (rw t at e) ∙ c.loop-b.invariant
 
 pub returns : goal.returns
-returns c = sym (ap allZero (drop_all c.loop-b.b-index c.args.bytes.now c.loop-b-test.false)) ∙ c.loop-b.invariant
+returns c = sym (ap all_zero (drop_all c.loop-b.b-index c.args.bytes.now c.loop-b-test.false)) ∙ c.loop-b.invariant

@@ -1,7 +1,7 @@
 use Rattle.std.proofs.Common.{sym, ◌∙◌, arith}
 use Rattle.std.proofs.lemmas.Slice.{put_mid-paste}
 use Rattle.octets.specs.Fields.{bytes_of}
-use Rattle.octets.proofs.Fielded.{bytes8, length-bytes}
+use Rattle.octets.proofs.Fielded.{bytes8, length_bytes}
 use Rattle.octets.proofs.put_u64.Goals as goal
 
 pub returns : goal.returns
@@ -9,4 +9,4 @@ returns c =
     put_mid-paste c.args.at _ c.args.b.now c.copy_from_slice.new.self (bytes_of 8 c.args.v) 8
     (c.copy_from_slice.ensures.after ∙ c.to_be_bytes.ensures ∙ sym (bytes8 c.args.v))
     (omega arith)
-    (sym (length-bytes 8 c.args.v))
+    (sym (length_bytes 8 c.args.v))

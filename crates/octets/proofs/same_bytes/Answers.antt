@@ -4,18 +4,18 @@ use Rattle.std.proofs.lemmas.List.{ext_get_or}
 use Rattle.std.proofs.lemmas.Bool.Decides.{Decides-eqb, Decides-like}
 use Rattle.octets.proofs.same_bytes.Goals as goal
 
-or-zero : (a b : ℕ) → bit_or a b ≡ 0 → (a ≡ 0) × (b ≡ 0)
-or-zero a b e = (omega (arith, or_add_and a b, and_le_l a b, and_le_r a b), omega (arith, or_add_and a b, and_le_l a b, and_le_r a b))
+or_zero : (a b : ℕ) → bit_or a b ≡ 0 → (a ≡ 0) × (b ≡ 0)
+or_zero a b e = (omega (arith, or_add_and a b, and_le_l a b, and_le_r a b), omega (arith, or_add_and a b, and_le_l a b, and_le_r a b))
 
-xor-zero : (a b : ℕ) → bit_xor a b ≡ 0 → a ≡ b
-xor-zero a b e = sym (xor_zero_r a) ∙ ap (λ x. bit_xor a x) (sym e) ∙ sym (xor_assoc a a b) ∙ ap (λ x. bit_xor x b) (xor_self a) ∙ xor_zero_l b
+xor_zero : (a b : ℕ) → bit_xor a b ≡ 0 → a ≡ b
+xor_zero a b e = sym (xor_zero_r a) ∙ ap (λ x. bit_xor a x) (sym e) ∙ sym (xor_assoc a a b) ∙ ap (λ x. bit_xor x b) (xor_self a) ∙ xor_zero_l b
 
 pub loop-i-preserved : goal.loop-i-preserved
 loop-i-preserved c =
     let x : ℕ = get_or c.args.a.now c.loop-i.i 0 in
     let y : ℕ = get_or c.args.b.now c.loop-i.i 0 in
     let d : ℕ = c.loop-i.diff in (
-      (λ z. below_more _ _ (c.loop-i.invariant.0 (or-zero d (bit_xor x y) z).0) (xor-zero x y (or-zero d (bit_xor x y) z).1)),
+      (λ z. below_more _ _ (c.loop-i.invariant.0 (or_zero d (bit_xor x y) z).0) (xor_zero x y (or_zero d (bit_xor x y) z).1)),
       (λ all.
           let e : x ≡ y = all c.loop-i.i (omega arith) in
           let z : d ≡ 0 = c.loop-i.invariant.1 (λ k h. all k (omega arith)) in

@@ -2,22 +2,22 @@ use Rattle.std.proofs.Common.{◌<◌, length, sym, refl, arith}
 use Rattle.std.proofs.lemmas.Result.{err_from_is_err_and}
 use Rattle.device.specs.Effects.{blank}
 use Rattle.fault.specs.declared.Step.TheVariants.{Make}
-use Rattle.steps.specs.OneStep.{writeOf}
-use Rattle.steps.proofs.Plans.{ran-none, ran-next, ran-cut, ran-as}
-use Rattle.opening.proofs.Blanks.{blank-more, blank-around}
+use Rattle.steps.specs.OneStep.{write_of}
+use Rattle.steps.proofs.Plans.{ran_none, ran_next, ran_cut, ran_as}
+use Rattle.opening.proofs.Blanks.{blank_more, blank_around}
 use Rattle.opening.proofs.blank_all.Goals as goal
 
 pub loop-i-init : goal.loop-i-init
-loop-i-init g c = ran-none _ _ _ refl c.requires.1
+loop-i-init g c = ran_none _ _ _ refl c.requires.1
 
 pub returns-in_err-write_at : goal.returns-in_err-write_at
 returns-in_err-write_at g c =
     let p = err_from_is_err_and c.from_residual.result c.from_residual.ensures.1 in
     let lt : c.loop-i.i < c.args.count = omega arith in
     let h : c.loop-i.i < length (g.D.ReadSlots.slots c.args.d.now) = omega arith in
-    rw (p.1, p.2) (ran-as (sym (blank-around c.args.count c.loop-i.i lt)) (ran-cut _ (ran-next (writeOf c.loop-i.i blank Make) c.loop-i.invariant h c.in_err-write_at.ensures)))
+    rw (p.1, p.2) (ran_as (sym (blank_around c.args.count c.loop-i.i lt)) (ran_cut _ (ran_next (write_of c.loop-i.i blank Make) c.loop-i.invariant h c.in_err-write_at.ensures)))
 
 pub loop-i-preserved : goal.loop-i-preserved
 loop-i-preserved g c =
     let h : c.loop-i.i < length (g.D.ReadSlots.slots c.args.d.now) = omega arith in
-    ran-as (sym (blank-more c.loop-i.i)) (ran-next (writeOf c.loop-i.i blank Make) c.loop-i.invariant h c.in_ok-write_at.ensures)
+    ran_as (sym (blank_more c.loop-i.i)) (ran_next (write_of c.loop-i.i blank Make) c.loop-i.invariant h c.in_ok-write_at.ensures)

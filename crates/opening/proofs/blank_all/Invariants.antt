@@ -1,8 +1,8 @@
 use Rattle.std.proofs.Common.{Ok}
 use Rattle.steps.specs.Writes.{Ran}
-use Rattle.rules.specs.Files.{blankWrites}
+use Rattle.rules.specs.Files.{blank_writes}
 use Rattle.opening.proofs.blank_all.Given as goal
 
 -- the first i slots are zero
 abbrev pub invariant-loop-i : goal.invariant-loop-i
-invariant-loop-i g l = Ran (g.D.ReadSlots.slots l.initial.d) (blankWrites 0 l.i) (Ok tt) (g.D.ReadSlots.slots l.d) (g.D.ReadSlots.powered l.d)
+invariant-loop-i g l = Ran (g.D.ReadSlots.slots l.initial.d) (blank_writes 0 l.i) (Ok tt) (g.D.ReadSlots.slots l.d) (g.D.ReadSlots.powered l.d)

@@ -1,9 +1,9 @@
 use Rattle.std.proofs.Common.{Err, sym, refl, ap, ◌∙◌}
 use Rattle.std.proofs.lemmas.Result.{err_from_is_err_and}
-use Rattle.tree.specs.Nodes.{treeLevels}
-use Rattle.rules.specs.Kits.{kitOf}
+use Rattle.tree.specs.Nodes.{tree_levels}
+use Rattle.rules.specs.Kits.{kit_of}
 use Rattle.rules.specs.Calls.{declined, stopped}
-use Rattle.opening.proofs.Reopened.{faulty-from, swept-from}
+use Rattle.opening.proofs.Reopened.{faulty_from, swept_from}
 use Rattle.opening.proofs.restart_and_sweep.Goals as goal
 
 pub returns-in_err-count : goal.returns-in_err-count
@@ -22,11 +22,11 @@ returns-in_err-read_marking g c =
     let p = err_from_is_err_and c.from_residual-in_err-read_marking.result c.from_residual-in_err-read_marking.ensures.1 in
     let n = c.in_ok-count.ensures in
     let u = c.in_ok-restart.ensures in
-    rw (p.1, p.2) (faulty-from (kitOf (g.G.Generator.expansion c.args.g.now) (g.G.Generator.code c.args.g.now) (g.S.Sealer.sealing c.args.s.now) (g.S.Sealer.overhead c.args.s.now) (g.S.Sealer.number c.args.s.now)) treeLevels _ _ _ _ _ _ _ _ (sym c.number.ensures) (sym c.number-2.ensures) u.0 u.1 n.0 c.in_err-read_marking.ensures.is)
+    rw (p.1, p.2) (faulty_from (kit_of (g.G.Generator.expansion c.args.g.now) (g.G.Generator.code c.args.g.now) (g.S.Sealer.sealing c.args.s.now) (g.S.Sealer.overhead c.args.s.now) (g.S.Sealer.number c.args.s.now)) tree_levels _ _ _ _ _ _ _ _ (sym c.number.ensures) (sym c.number-2.ensures) u.0 u.1 n.0 c.in_err-read_marking.ensures.is)
 
 pub returns : goal.returns
 returns g c =
     let n = c.in_ok-count.ensures in
     let u = c.in_ok-restart.ensures in
     let a = c.in_ok-read_marking.ensures in
-    swept-from (kitOf (g.G.Generator.expansion c.args.g.now) (g.G.Generator.code c.args.g.now) (g.S.Sealer.sealing c.args.s.now) (g.S.Sealer.overhead c.args.s.now) (g.S.Sealer.number c.args.s.now)) treeLevels _ _ _ c.in_ok-count.count _ _ _ _ _ c.read_marking.new.marks _ _ _ (sym c.number.ensures) (sym c.number-2.ensures) u.0 u.1 n.0 n.1 c.read_marking.auto.marks a.is a.marks c.sweep.ensures
+    swept_from (kit_of (g.G.Generator.expansion c.args.g.now) (g.G.Generator.code c.args.g.now) (g.S.Sealer.sealing c.args.s.now) (g.S.Sealer.overhead c.args.s.now) (g.S.Sealer.number c.args.s.now)) tree_levels _ _ _ c.in_ok-count.count _ _ _ _ _ c.read_marking.new.marks _ _ _ (sym c.number.ensures) (sym c.number-2.ensures) u.0 u.1 n.0 n.1 c.read_marking.auto.marks a.is a.marks c.sweep.ensures

@@ -1,8 +1,8 @@
 use Rattle.std.proofs.Common.{◌≡◌, ◌≤◌, true, List, length, Ok}
 use Rattle.octets.specs.Buffers.{zeros}
-use Rattle.marks.specs.Rows.{roomOf}
+use Rattle.marks.specs.Rows.{room_of}
 use Rattle.chain.specs.Reading.{Link}
-use Rattle.chain.specs.Listing.{markedAll}
+use Rattle.chain.specs.Listing.{marked_all}
 use Rattle.steps.specs.Writes.{Ran}
 use Rattle.opening.proofs.Swept.{sofar}
 use Rattle.opening.proofs.sweep.Given as goal
@@ -11,5 +11,5 @@ use Rattle.opening.proofs.sweep.Given as goal
 abbrev pub invariant-loop-i : goal.invariant-loop-i
 invariant-loop-i g l =
     (g.D.ReadSlots.powered l.d ≡ true) × (length (g.D.ReadSlots.slots l.d) ≡ length (g.D.ReadSlots.slots l.initial.d))
-    × ((xs : List Link) → l.marks ≡ markedAll (zeros (length l.marks)) xs → roomOf l.count ≤ length l.marks →
+    × ((xs : List Link) → l.marks ≡ marked_all (zeros (length l.marks)) xs → room_of l.count ≤ length l.marks →
     Ran (g.D.ReadSlots.slots l.initial.d) (sofar (g.D.ReadSlots.slots l.initial.d) xs l.i) (Ok tt) (g.D.ReadSlots.slots l.d) (g.D.ReadSlots.powered l.d))

@@ -1,11 +1,11 @@
 use Rattle.std.proofs.Common.{[], get_or, sym, ap, ◌∙◌}
-use Rattle.rules.specs.Files.{isBlank}
-use Rattle.opening.proofs.Swept.{one-swept}
+use Rattle.rules.specs.Files.{is_blank}
+use Rattle.opening.proofs.Swept.{one_swept}
 use Rattle.opening.proofs.sweep_slot.Goals as goal
 
 pub returns : goal.returns
 returns g c =
     let pre = c.requires in
     let kept = sym c.is_marked.ensures.is ∙ c.if-is_marked.false in
-    let full = ap isBlank (sym c.in_ok-read_at.ensures.2) ∙ sym c.is_blank.ensures ∙ c.if-is_blank.false in
-    one-swept _ _ _ _ _ _ (get_or (g.D.ReadSlots.slots c.args.d.now) c.args.index []) _ kept full pre.0 c.write_at.ensures
+    let full = ap is_blank (sym c.in_ok-read_at.ensures.2) ∙ sym c.is_blank.ensures ∙ c.if-is_blank.false in
+    one_swept _ _ _ _ _ _ (get_or (g.D.ReadSlots.slots c.args.d.now) c.args.index []) _ kept full pre.0 c.write_at.ensures

@@ -1,10 +1,10 @@
 use Rattle.std.proofs.Common.{ap, ◌∙◌, ◌-◌, ℕ, length-drop}
 use Rattle.layout.specs.Records.{value_of}
-use Rattle.redeeming.proofs.Checks.{value-copied}
+use Rattle.redeeming.proofs.Checks.{value_copied}
 use Rattle.redeeming.proofs.copy_value.Goals as goal
 
 pub returns-clause-is : goal.returns-clause-is
-returns-clause-is c = value-copied _ _ c.told-slot c.copy_from_slice.ensures.after
+returns-clause-is c = value_copied _ _ c.told-slot c.copy_from_slice.ensures.after
 
 pub returns-clause-long : goal.returns-clause-long
 unfolding value_of

@@ -1,6 +1,6 @@
 use Rattle.std.proofs.Common.{◌-◌, ◌<◌, ◌≤◌, arith}
 use Rattle.std.proofs.lemmas.Result.{err_from_is_err_and}
-use Rattle.redeeming.proofs.Spends.{underived, met, stopped, no_slot, gives, failed-at, done}
+use Rattle.redeeming.proofs.Spends.{underived, met, stopped, no_slot, gives, failed_at, done}
 use Rattle.redeeming.proofs.spend.Goals as goal
 
 pub returns-in_err-calls : goal.returns-in_err-calls
@@ -28,8 +28,8 @@ returns-in_err-puncture g c = λ f front x back z.
     let le : c.in_ok-calls.calls ≤ c.args.count - 1 - c.args.records = omega arith in
     let e = g.met.G.Generator.long c.args.g.now in
     let w = c.in_ok-calls.ensures x m in
-    let v = gives z c.get_u32-number.result c.get_u32-number.ensures _ _ _ w (record { onLeft = λ v l. (e v l).0; onRight = λ v l. (e v l).1 }) le in
-    rw (p.1, p.2) (failed-at z c.get_u32-number.result c.get_u32-number.ensures _ _ _ w (c.in_ok-length.ensures z.large) le (c.in_err-puncture.ensures.did _ f front x back v))
+    let v = gives z c.get_u32-number.result c.get_u32-number.ensures _ _ _ w (record { on_left = λ v l. (e v l).0; on_right = λ v l. (e v l).1 }) le in
+    rw (p.1, p.2) (failed_at z c.get_u32-number.result c.get_u32-number.ensures _ _ _ w (c.in_ok-length.ensures z.large) le (c.in_err-puncture.ensures.did _ f front x back v))
 
 pub returns : goal.returns
 returns g c = λ f front x back z.
@@ -37,5 +37,5 @@ returns g c = λ f front x back z.
     let le : c.in_ok-calls.calls ≤ c.args.count - 1 - c.args.records = omega arith in
     let e = g.met.G.Generator.long c.args.g.now in
     let w = c.in_ok-calls.ensures x m in
-    let v = gives z c.get_u32-number.result c.get_u32-number.ensures _ _ _ w (record { onLeft = λ v l. (e v l).0; onRight = λ v l. (e v l).1 }) le in
+    let v = gives z c.get_u32-number.result c.get_u32-number.ensures _ _ _ w (record { on_left = λ v l. (e v l).0; on_right = λ v l. (e v l).1 }) le in
     done z c.get_u32-number.result c.get_u32-number.ensures _ _ _ w (c.in_ok-length.ensures z.large) le (c.in_ok-puncture.ensures.did _ f front x back v)

@@ -3,8 +3,8 @@ use lib.Bits.{bit_xor}
 use Rattle.std.proofs.lemmas.List.{get_or-take}
 use Rattle.std.proofs.lemmas.Bool.{cases_lt}
 use Rattle.sealing.specs.Covering.{covered}
-use Rattle.sealing.proofs.Covers.{covered-here, covered-filled}
-use Rattle.sealing.proofs.Opens.{filled-front}
+use Rattle.sealing.proofs.Covers.{covered_here, covered_filled}
+use Rattle.sealing.proofs.Opens.{filled_front}
 use Rattle.sealing.proofs.cover.Goals as goal
 
 pub loop-at-preserved : goal.loop-at-preserved
@@ -16,7 +16,7 @@ loop-at-preserved g c =
     let stream : ℕ → List ℕ = g.S.Scheme.block c.args.scheme.now c.args.key.now in
     let pad : List ℕ = c.block.new.pad in
     let whole : length (stream c.loop-at.index) ≡ size = g.met.S.Scheme.whole c.args.scheme.now c.args.key.now c.loop-at.index ∙ sym is in
-    let filled : take size pad ≡ stream c.loop-at.index = ap (take size) c.block.ensures ∙ filled-front (stream c.loop-at.index) 64 size whole in (
+    let filled : take size pad ≡ stream c.loop-at.index = ap (take size) c.block.ensures ∙ filled_front (stream c.loop-at.index) 64 size whole in (
       omega (arith, c.loop-at.invariant.0, add-mul c.loop-at.index 1 size),
       omega (arith, c.loop-at.invariant.1),
       (λ k h p. ⊎_elim
@@ -25,7 +25,7 @@ loop-at-preserved g c =
           let within : k - at < size = omega arith in
           c.lay.ensures.here k ge h p
           ∙ ap (bit_xor (get_or c.args.plain.now k 0)) (sym (get_or-take size pad (k - at) 0 within))
-          ∙ covered-here stream size c.args.plain.now pad c.loop-at.index at k c.loop-at.invariant.0 ge h filled)
+          ∙ covered_here stream size c.args.plain.now pad c.loop-at.index at k c.loop-at.invariant.0 ge h filled)
           (cases_lt k at)),
       λ k h. c.lay.ensures.after k h ∙ c.loop-at.invariant.3 k h,
     )
@@ -35,7 +35,7 @@ returns g c =
     let stream : ℕ → List ℕ = g.S.Scheme.block c.args.scheme.now c.args.key.now in
     let plain : List ℕ = c.args.plain.now in
     let all : c.loop-at.out ≡ covered stream c.size-size.result plain ++ drop (length plain) c.args.out.now =
-    covered-filled stream c.size-size.result plain c.args.out.now c.loop-at.out (omega arith) (omega arith)
+    covered_filled stream c.size-size.result plain c.args.out.now c.loop-at.out (omega arith) (omega arith)
     (λ k h. c.loop-at.invariant.2 k (omega arith) h)
     c.loop-at.invariant.3 in
     all ∙ ap (λ (x : ℕ). covered stream x plain ++ drop (length plain) c.args.out.now) c.size-size.ensures

@@ -4,8 +4,8 @@ use Rattle.std.proofs.lemmas.List.{length-replicate}
 use Rattle.std.proofs.lemmas.Slice.{put_mid-paste}
 use Rattle.octets.specs.Buffers.{filled}
 use Rattle.sealing.specs.Covering.{covered}
-use Rattle.sealing.proofs.Covers.{covered-long}
-use Rattle.sealing.proofs.Opens.{filled-front, covered-zeros, sealed-parts}
+use Rattle.sealing.proofs.Covers.{covered_long}
+use Rattle.sealing.proofs.Opens.{filled_front, covered_zeros, sealed_parts}
 use Rattle.sealing.proofs.seal.Goals as goal
 
 pub returns-clause-sealed : goal.returns-clause-sealed
@@ -20,17 +20,17 @@ returns-clause-sealed g c =
     let room : ℕ = length c.args.out.now in
     let bytes : List ℕ = covered block size plain in
     let cleared : length c.clear_both.new.out ≡ room = ap length c.clear_both.ensures.out ∙ length-replicate {A = ℕ} room 0 in
-    let laid : c.cover.new.out ≡ filled bytes room = c.cover.ensures ∙ covered-zeros block size plain c.clear_both.new.out room c.clear_both.ensures.out in
+    let laid : c.cover.new.out ≡ filled bytes room = c.cover.ensures ∙ covered_zeros block size plain c.clear_both.new.out room c.clear_both.ensures.out in
     let front : take (n - 0) c.cover.new.out ≡ bytes =
-    ap (take (n - 0)) laid ∙ filled-front bytes room (n - 0) (omega (arith, covered-long block size plain)) in
+    ap (take (n - 0)) laid ∙ filled_front bytes room (n - 0) (omega (arith, covered_long block size plain)) in
     let tagged : (b : List ℕ) → length (tag b) ≡ x = λ b. g.met.S.Scheme.tagged c.args.scheme.now c.args.key.now c.args.heading.now b ∙ sym is in
     let read : List ℕ = take (n - 0) c.cover.new.out in
     let whole : x ≡ x - 0 = omega arith in
     let end : c.copy_from_slice.new.self ≡ tag bytes =
-    c.copy_from_slice.ensures.after ∙ ap (take (x - 0)) c.tag.ensures.tagged ∙ filled-front (tag read) 32 (x - 0) (tagged read ∙ whole) ∙ ap tag front in
+    c.copy_from_slice.ensures.after ∙ ap (take (x - 0)) c.tag.ensures.tagged ∙ filled_front (tag read) 32 (x - 0) (tagged read ∙ whole) ∙ ap tag front in
     let long : length (tag bytes) ≡ x = tagged bytes in
     let written = put_mid-paste n (n + x - n) c.cover.new.out c.copy_from_slice.new.self (tag bytes) x end (omega arith) (sym long) in (
       (omega arith, omega arith),
       omega arith,
-      (written ∙ ap (λ (o : List ℕ). paste o n (tag bytes) x) laid ∙ sealed-parts block size tag x plain (tag bytes) room long refl (omega arith)),
+      (written ∙ ap (λ (o : List ℕ). paste o n (tag bytes) x) laid ∙ sealed_parts block size tag x plain (tag bytes) room long refl (omega arith)),
     )

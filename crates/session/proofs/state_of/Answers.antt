@@ -2,32 +2,32 @@ use Rattle.std.proofs.Common.{◌≡◌, ℕ, ◌+◌, ◌≤◌, List, [], leng
 use Rattle.std.proofs.lemmas.List.{length-drop, length-take, length-take-le, take_rest}
 use Rattle.octets.specs.Buffers.{filled}
 use Rattle.session.proofs.Rows.{filled_next, filled_whole}
-use Rattle.session.proofs.Laid.{suite-laid}
+use Rattle.session.proofs.Laid.{suite_laid}
 use Rattle.session.proofs.Trip.{read_made}
 use Rattle.session.proofs.state_of.Goals as goal
 
 pub slice_bounds-secret-end : goal.slice_bounds-secret-end
-slice_bounds-secret-end c = let long = (suite-laid c.args.bytes.now c.args.suite c.requires).long in search rules
+slice_bounds-secret-end c = let long = (suite_laid c.args.bytes.now c.args.suite c.requires).long in search rules
 
 pub slice_bounds-name-count : goal.slice_bounds-name-count
-slice_bounds-name-count c = let long = (suite-laid c.args.bytes.now c.args.suite c.requires).long in omega arith
+slice_bounds-name-count c = let long = (suite_laid c.args.bytes.now c.args.suite c.requires).long in omega arith
 
 pub slice_bounds-name-start : goal.slice_bounds-name-start
-slice_bounds-name-start c = let long = (suite-laid c.args.bytes.now c.args.suite c.requires).long in search rules
+slice_bounds-name-start c = let long = (suite_laid c.args.bytes.now c.args.suite c.requires).long in search rules
 
 pub bounds-bytes-name_at : goal.bounds-bytes-name_at
-bounds-bytes-name_at c = let long = (suite-laid c.args.bytes.now c.args.suite c.requires).long in omega arith
+bounds-bytes-name_at c = let long = (suite_laid c.args.bytes.now c.args.suite c.requires).long in omega arith
 
 pub put_part-requires-2 : goal.put_part-requires-2
 put_part-requires-2 c =
-    let l = suite-laid c.args.bytes.now c.args.suite c.requires in
+    let l = suite_laid c.args.bytes.now c.args.suite c.requires in
     let whole = l.whole in
     let named = l.named in
     simp (length-take, length-drop) (omega arith)
 
 pub returns : goal.returns
 returns c =
-    let l = suite-laid c.args.bytes.now c.args.suite c.requires in
+    let l = suite_laid c.args.bytes.now c.args.suite c.requires in
     let n : c.secret_length-name_at.result ≡ 32 = c.secret_length-name_at.ensures in
     let part : List ℕ = take 32 (drop 22 c.args.bytes.now) in
     let whole : length part ≡ 32 = length-take-le 32 (drop 22 c.args.bytes.now) (omega (arith, length-drop 22 c.args.bytes.now, l.long)) in

@@ -1,6 +1,6 @@
-use Rattle.sha.specs.Digest.{rotr, bigSigma1}
+use Rattle.sha.specs.Digest.{rotr, big_sigma1}
 use Rattle.sha.proofs.big_sigma1.Goals as goal
 
 pub returns : goal.returns
-unfolding rotr bigSigma1
+unfolding rotr big_sigma1
 returns c = cc

@@ -4,9 +4,9 @@ use Rattle.sha.specs.Digest.{next_of, scheduled}
 use Rattle.sha.proofs.next_eight.Goals as goal
 
 -- the next word reads only words that are there already
-next-take : (w : List ℕ) (n : ℕ) → next_of (take (n + 16) w) n ≡ next_of w n
+next_take : (w : List ℕ) (n : ℕ) → next_of (take (n + 16) w) n ≡ next_of w n
 unfolding next_of
-next-take w n =
+next_take w n =
     let a : n + 14 < n + 16 = omega arith in
     let b : n + 9 < n + 16 = omega arith in
     let d : n + 1 < n + 16 = omega arith in
@@ -19,7 +19,7 @@ more : (b w : List ℕ) (n x : ℕ) → n + 16 < length w → x ≡ next_of w n 
 unfolding scheduled
 more b w n x fits is so m next =
     let at : m + 16 ≡ (n + 16) + 1 = omega arith in
-    rw (at, take_more_set w (n + 16) x fits, is, ← next-take w n, so, next)
+    rw (at, take_more_set w (n + 16) x fits, is, ← next_take w n, so, next)
 
 pub loop-j-init : goal.loop-j-init
 loop-j-init c = (λ b so. rw add-zero so, c.told-w)

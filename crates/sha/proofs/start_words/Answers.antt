@@ -1,5 +1,5 @@
-use Rattle.sha.proofs.Rule.{start-table, start-rooted}
+use Rattle.sha.proofs.Rule.{start_table_is, start_rooted}
 use Rattle.sha.proofs.start_words.Goals as goal
 
 pub returns : goal.returns
-returns c = record { is = start-table; rule = start-rooted }
+returns c = record { is = start_table_is; rule = start_rooted }

@@ -1,6 +1,6 @@
-use Rattle.sha.specs.Digest.{plus, secondSum}
+use Rattle.sha.specs.Digest.{plus, second_sum}
 use Rattle.sha.proofs.t2.Goals as goal
 
 pub returns : goal.returns
-unfolding plus secondSum
+unfolding plus second_sum
 returns c = cc

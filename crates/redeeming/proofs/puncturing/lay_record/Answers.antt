@@ -1,9 +1,9 @@
 use Rattle.std.proofs.Common.{◌≡◌, ℕ, ◌+◌, ◌-◌, ◌*◌, take, drop, ap, ◌∙◌, arith}
-use Rattle.redeeming.proofs.Values.{valued-laid}
+use Rattle.redeeming.proofs.Values.{valued_laid}
 use Rattle.redeeming.proofs.puncturing.lay_record.Goals as goal
 
 pub returns : goal.returns
 returns c =
     let k = c.args.k in
     let n : 32 * k + 32 - 32 * k ≡ 32 = omega arith in
-    valued-laid _ _ _ _ c.encode_node.ensures.is (c.copy_from_slice.ensures.after ∙ ap (λ (m : ℕ). take m (drop (32 * k) c.args.row.now)) n)
+    valued_laid _ _ _ _ c.encode_node.ensures.is (c.copy_from_slice.ensures.after ∙ ap (λ (m : ℕ). take m (drop (32 * k) c.args.row.now)) n)

@@ -1,8 +1,8 @@
 use Rattle.std.proofs.Common.{arith}
 use Rattle.std.proofs.lemmas.Result.{err_from_is_err_and}
-use Rattle.tree.specs.Nodes.{treeLevels}
-use Rattle.redeeming.proofs.Values.{listed-nodes, listed-fit}
-use Rattle.redeeming.proofs.Done.{way_down, is-able, may-join, cut-records, cut-join, punctured}
+use Rattle.tree.specs.Nodes.{tree_levels}
+use Rattle.redeeming.proofs.Values.{listed_nodes, listed_fit}
+use Rattle.redeeming.proofs.Done.{way_down, is_able, may_join, cut_records, cut_join, punctured}
 use Rattle.redeeming.proofs.puncturing.puncture.Goals as goal
 
 pub returns-in_default : goal.returns-in_default
@@ -12,36 +12,36 @@ returns-in_default g c = record {
 }
 
 pub write_records-requires : goal.write_records-requires
-write_records-requires g c = listed-fit treeLevels c.args.n c.args.found.now.node c.in-Some.many c.siblings.new.row c.in-Some.ensures
+write_records-requires g c = listed_fit tree_levels c.args.n c.args.found.now.node c.in-Some.many c.siblings.new.row c.in-Some.ensures
 
 pub returns-in_err-first : goal.returns-in_err-first
 returns-in_err-first g c =
     let p = err_from_is_err_and c.from_residual.result c.from_residual.ensures.1 in
-    let is = listed-nodes treeLevels c.args.n c.args.found.now.node c.in-Some.many c.siblings.new.row c.in-Some.ensures in
+    let is = listed_nodes tree_levels c.args.n c.args.found.now.node c.in-Some.many c.siblings.new.row c.in-Some.ensures in
     record {
-      did = λ k f front x back v. rw (p.1, p.2) (cut-records v _ is (c.in_err-first.ensures (is-able v _ is)));
+      did = λ k f front x back v. rw (p.1, p.2) (cut_records v _ is (c.in_err-first.ensures (is_able v _ is)));
       clean = c.drop-guard-in_err-first.ensures;
     }
 
 pub returns-in_err-join : goal.returns-in_err-join
 returns-in_err-join g c =
     let p = err_from_is_err_and c.from_residual-in_err-join.result c.from_residual-in_err-join.ensures.1 in
-    let is = listed-nodes treeLevels c.args.n c.args.found.now.node c.in-Some.many c.siblings.new.row c.in-Some.ensures in
+    let is = listed_nodes tree_levels c.args.n c.args.found.now.node c.in-Some.many c.siblings.new.row c.in-Some.ensures in
     record {
       did = λ k f front x back v.
-          let l = c.in_ok-first.ensures (is-able v _ is) in
-          let m = may-join v _ is l in
-          rw (p.1, p.2) (cut-join v _ is l (c.in_err-join.ensures m.0 m.1));
+          let l = c.in_ok-first.ensures (is_able v _ is) in
+          let m = may_join v _ is l in
+          rw (p.1, p.2) (cut_join v _ is l (c.in_err-join.ensures m.0 m.1));
       clean = c.drop-guard-in_err-join.ensures;
     }
 
 pub returns : goal.returns
 returns g c =
-    let is = listed-nodes treeLevels c.args.n c.args.found.now.node c.in-Some.many c.siblings.new.row c.in-Some.ensures in
+    let is = listed_nodes tree_levels c.args.n c.args.found.now.node c.in-Some.many c.siblings.new.row c.in-Some.ensures in
     record {
       did = λ k f front x back v.
-          let l = c.in_ok-first.ensures (is-able v _ is) in
-          let m = may-join v _ is l in
+          let l = c.in_ok-first.ensures (is_able v _ is) in
+          let m = may_join v _ is l in
           punctured v _ is l (c.in_ok-join.ensures m.0 m.1) c.write_at.ensures;
       clean = c.drop-guard-2.ensures;
     }

@@ -3,9 +3,9 @@ use lib.Seq.{paste}
 use Rattle.octets.specs.Fields.{bytes_of}
 use Rattle.std.proofs.lemmas.List.{length-replicate}
 use Rattle.octets.specs.Buffers.{filled}
-use Rattle.session.specs.Limits.{mostLength, name_at}
-use Rattle.session.specs.Records.{Typed, Fits, encodeOf, fieldsFit}
-use Rattle.session.proofs.Written.{filled-parts, answer, buffer, reads-back}
+use Rattle.session.specs.Limits.{most_length, name_at}
+use Rattle.session.specs.Records.{Typed, Fits, encode_of, fields_fit}
+use Rattle.session.proofs.Written.{filled_parts, answer, buffer, reads_back}
 use Rattle.session.proofs.SessionState.write.Goals as goal
 
 pub returns : goal.returns
@@ -13,14 +13,14 @@ returns c =
     let s = c.args.self.now in
     let n : ℕ = length c.args.out.now in
     let l : length c.clear.new.b ≡ n = ap length c.clear.ensures ∙ length-replicate {A = ℕ} n 0 in
-    let room : mostLength ≤ n = omega arith in
-    let t : Typed s = record { issuedAt = omega arith; lifetime = omega arith; ageAdd = omega arith; earlyDataLimit = omega arith; secret = omega arith; name = omega arith } in
-    let fit : fieldsFit s ≡ true = sym c.if-not-fits.ensures.value in
+    let room : most_length ≤ n = omega arith in
+    let t : Typed s = record { issued_at = omega arith; lifetime = omega arith; age_add = omega arith; early_data_limit = omega arith; secret = omega arith; name = omega arith } in
+    let fit : fields_fit s ≡ true = sym c.if-not-fits.ensures.value in
     let f : Fits s = c.if-not-fits.ensures.decides.0 refl in
     let at : c.secret_length-name_at.result ≡ 32 = c.secret_length-name_at.ensures in
     let from : s.name_length - 0 ≡ s.name_length = omega arith in
-    let all : c.put_part-2.new.row ≡ filled (encodeOf s) n =
-    filled-parts s n t f room c.clear.new.b c.put_u16.new.b c.put_u64.new.b c.put_u32.new.b c.put_u32-2.new.b c.put_u32-3.new.b c.put_part.new.row c.put_part-2.new.row
+    let all : c.put_part-2.new.row ≡ filled (encode_of s) n =
+    filled_parts s n t f room c.clear.new.b c.put_u16.new.b c.put_u64.new.b c.put_u32.new.b c.put_u32-2.new.b c.put_u32-3.new.b c.put_part.new.row c.put_part-2.new.row
     c.clear.ensures
     (c.put_u16.ensures ∙ ap (λ (x : ℕ). paste c.clear.new.b 0 (bytes_of 2 x) 2) c.number.ensures)
     c.put_u64.ensures c.put_u32.ensures c.put_u32-2.ensures c.put_u32-3.ensures c.put_part.ensures
@@ -29,5 +29,5 @@ returns c =
     record {
       value = answer s n t f room _ k fit;
       out = all ∙ buffer s n t f room fit;
-      back = reads-back s n t f room _ _ k all;
+      back = reads_back s n t f room _ _ k all;
     }
