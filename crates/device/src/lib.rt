@@ -4,7 +4,7 @@
 //! stands in specs/Effects.antt; every device, at the bottom or a layer above another, is proved to do just that.
 #![tactic(auto)]
 
-ghost use Rattle.std.specs.Prelude.{◌≡◌, ℕ, Bool, List, length};
+ghost use Rattle.std.specs.Prelude.{◌≡◌, ℕ, ◌<◌, Bool, List, [], length, slice_index_or};
 ghost use Rattle.device.specs.Effects.{Reading, Writing, Restarting, Tearing, slot_size, blank};
 ghost use Rattle.device.specs.Refusals.{refusal_of};
 
@@ -47,6 +47,9 @@ pub trait ReadSlots {
     ghost slots: { Self → List (List ℕ) };
 
     ghost powered: { Self → Bool };
+
+    /// Each slot has its bytes.
+    ghost sized: { (d : Self) (k : ℕ) → k < length (slots d) → length (slice_index_or (slots d) k []) ≡ slot_size };
 
     /// The number of slots.
     fn count(&self) -> usize

@@ -5,6 +5,7 @@ ghost use Rattle.std.specs.Prelude.{◌≡◌, true, Some, None};
 ghost use Rattle.device.specs.Effects.{Tearing, Restarting};
 ghost use Rattle.medium.specs.Appointed.{Struck, Restarted, partly};
 ghost use Rattle.medium.specs.Rows.{slots_of};
+ghost use Rattle.medium.proofs.Rows.{sized_row};
 
 use device::{DeviceFault, ReadSlots, SLOT_SIZE, TearSlots};
 use medium::{Cut, strike};
@@ -42,6 +43,8 @@ impl<'a> ReadSlots for ByteImage<'a> {
     ghost slots = { λ s. slots_of s.row.now };
 
     ghost powered = { λ s. s.power };
+
+    ghost sized = { λ s k h. sized_row s.row.now k h };
 
     #[tactic(auto, using(medium::proofs::Rows::many))]
     fn count(&self) -> usize {

@@ -6,8 +6,9 @@
 #![tactic(auto)]
 
 ghost use Rattle.std.specs.Prelude.{◌≡◌, ◌+◌, ◌<◌, ◌≤◌, true, false, length, map, Some, None, MatchResult};
-ghost use Rattle.device.specs.Effects.{Writing, Restarting, blank};
+ghost use Rattle.device.specs.Effects.{Writing, Restarting, slot_size, blank};
 ghost use Rattle.journal.specs.Layout.{shown, copy_in, most_slots, mark_of, mark_in, pending_in, unused_in};
+ghost use Rattle.journal.specs.Sized.{shown_sized};
 ghost use Rattle.journal.specs.Writes.{write_of, clear_writes_of, clear_writes, place_writes, Within, Ran, WritingBelow, RestartingBelow};
 
 use device::{DeviceFault, ReadSlots, TearSlots, WriteSlots, blank_slot};
@@ -173,6 +174,8 @@ impl<D: ReadSlots> ReadSlots for Journal<D> {
     ghost slots = { λ s. shown (D.ReadSlots.slots s.below) };
 
     ghost powered = { λ s. D.ReadSlots.powered s.below };
+
+    ghost sized = { λ s k h. shown_sized slot_size (D.ReadSlots.slots s.below) (D.ReadSlots.sized s.below) k h };
 
     fn count(&self) -> usize {
         shown_count(&self.below)

@@ -1,10 +1,11 @@
 -- The laws of slots in a row of bytes.
-use Rattle.std.proofs.Common.{◌≡◌, ℕ, zero, suc, ◌+◌, ◌*◌, ◌<◌, ◌≤◌, List, [], ◌++◌, length, get_or, take, drop, set, sym, refl, ap, ◌∙◌, append_assoc, mul-le-mul_right, suc-mul, zero-add, zero-mul, arith}
+use Rattle.std.proofs.Common.{◌≡◌, ℕ, zero, suc, ◌+◌, ◌*◌, ◌/◌, ◌<◌, ◌≤◌, List, [], ◌++◌, length, get_or, take, drop, set, sym, refl, ap, ◌∙◌, append_assoc, mul-le-mul_right, suc-mul, zero-add, zero-mul, arith}
+use Rattle.std.proofs.Math.Nat.{mul_assoc, div-mul-le_self}
 use lib.Seq.{paste, paste-zero}
 use borrow.Rule.Slice.PartMut.{put_mid}
 use Rattle.std.proofs.lemmas.List.{drop-drop, drop-take, take-take, take_at, drop_at, take_all, drop_all, append-nil, take-append-le, drop-append-le, take-append-drop, length-take, length-drop, length-append}
-use Rattle.device.specs.Effects.{torn}
-use Rattle.medium.specs.Rows.{slots_in}
+use Rattle.device.specs.Effects.{torn, slot_size}
+use Rattle.medium.specs.Rows.{slots_in, slots_of}
 
 -- there are as many slots as asked for
 pub many : (w n : ℕ) (row : List ℕ) → length (slots_in w n row) ≡ n
@@ -33,6 +34,18 @@ pub sized : (w n : ℕ) (row : List ℕ) → n * w ≤ length row → (i : ℕ) 
 sized w n row f i h =
     let e = ends w n i h in
     ap length (place w n row i h) ∙ simp (length-take, length-drop) (omega arith)
+
+-- the slots of a row have as many bytes as a slot has,
+pub sized_row : (row : List ℕ) (k : ℕ) → k < length (slots_of row) → length (get_or (slots_of row) k []) ≡ slot_size
+sized_row row k h = sized slot_size (length row / slot_size) row (div-mul-le_self (length row) slot_size) k (omega (arith, many slot_size (length row / slot_size) row))
+
+-- and so have those in its whole parts of a bytes, with b slots in each
+pub sized_parts : (a b : ℕ) (row : List ℕ) → b * slot_size ≡ a → (k : ℕ) → k < length (slots_in slot_size (length row / a * b) row) →
+    length (get_or (slots_in slot_size (length row / a * b) row) k []) ≡ slot_size
+sized_parts a b row e k h =
+    let n : ℕ = length row / a * b in
+    let part : n * slot_size ≡ length row / a * a = mul_assoc (length row / a) b slot_size ∙ ap (λ c. length row / a * c) e in
+    sized slot_size n row (omega (arith, part, div-mul-le_self (length row) a)) k (omega (arith, many slot_size n row))
 
 -- the row with w bytes in another's place
 abbrev stored : ℕ → List ℕ → ℕ → List ℕ → List ℕ

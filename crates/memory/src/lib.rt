@@ -5,6 +5,7 @@ ghost use Rattle.std.specs.Prelude.{◌≡◌, true, Some, None};
 ghost use Rattle.device.specs.Effects.{Writing, Restarting};
 ghost use Rattle.medium.specs.Appointed.{Struck, Restarted};
 ghost use Rattle.medium.specs.Rows.{slots_of};
+ghost use Rattle.medium.proofs.Rows.{sized_row};
 ghost use Rattle.memory.specs.Whole.{wholly};
 
 use device::{DeviceFault, ReadSlots, SLOT_SIZE, WriteSlots};
@@ -43,6 +44,8 @@ impl<'a> ReadSlots for Memory<'a> {
     ghost slots = { λ s. slots_of s.row.now };
 
     ghost powered = { λ s. s.power };
+
+    ghost sized = { λ s k h. sized_row s.row.now k h };
 
     #[tactic(auto, using(medium::proofs::Rows::many))]
     fn count(&self) -> usize {

@@ -2,10 +2,11 @@
 //! appointment.
 #![tactic(auto)]
 
-ghost use Rattle.std.specs.Prelude.{◌≡◌, ◌*◌, ◌/◌, ◌<◌, ◌≤◌, true, length, replicate, Some, None};
+ghost use Rattle.std.specs.Prelude.{◌≡◌, ◌*◌, ◌/◌, ◌<◌, ◌≤◌, true, length, replicate, Some, None, refl};
 ghost use Rattle.std.proofs.Math.Seq.{paste};
 ghost use Rattle.device.specs.Effects.{Tearing, Restarting, slot_size};
 ghost use Rattle.medium.specs.Appointed.{Struck, Restarted, partly};
+ghost use Rattle.medium.proofs.Rows.{sized_parts};
 ghost use Rattle.sectors.specs.Sectors.{slots_by_sector, sector_size, sector_slots};
 
 use device::{DeviceFault, ReadSlots, SLOT_SIZE, TearSlots};
@@ -105,6 +106,8 @@ impl<'a> ReadSlots for SectorImage<'a> {
     ghost slots = { λ s. slots_by_sector s.row.now };
 
     ghost powered = { λ s. s.power };
+
+    ghost sized = { λ s k h. sized_parts sector_size sector_slots s.row.now refl k h };
 
     #[tactic(auto, using(medium::proofs::Rows::many))]
     fn count(&self) -> usize {
