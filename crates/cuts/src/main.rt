@@ -162,23 +162,9 @@ impl Tally {
         self.count_tickets(early, late);
     }
 
-    // Every count with its name, as it is printed.
-    fn rows(&self) -> [(&'static str, u32); 14] {
+    // The counts that stand alone on their lines, each with its name.
+    fn rows(&self) -> [(&'static str, u32); 6] {
         [
-            ("cuts in making", self.in_make),
-            ("cuts in issuing", self.in_issue),
-            ("cuts in redeeming", self.in_redeem),
-            (
-                "further cuts in the restart of the reopening after one",
-                self.in_restart,
-            ),
-            (
-                "further cuts in the sweep of the reopening after one",
-                self.in_sweep,
-            ),
-            ("files looked at in the end", self.looks),
-            ("  not made", self.not_made),
-            ("  trees", self.looks.saturating_sub(self.not_made)),
             (
                 "chains that are the cover, with zeros in every free slot, two for each tree",
                 self.clean,
@@ -198,6 +184,26 @@ impl Tally {
             ),
             ("wrong", self.wrong),
         ]
+    }
+
+    fn print(&self, show: &mut Show) {
+        println!(show;
+            "  cuts in the scenario: {} in making, {} in issuing, {} in redeeming",
+            self.in_make, self.in_issue, self.in_redeem
+        );
+        println!(show;
+            "  further cuts in the reopening after one: {} in its restart, {} in its sweep",
+            self.in_restart, self.in_sweep
+        );
+        println!(show;
+            "  files looked at in the end: {}, not made: {}, trees: {}",
+            self.looks,
+            self.not_made,
+            self.looks.saturating_sub(self.not_made)
+        );
+        for (name, count) in self.rows() {
+            println!(show; "  {name}: {count}");
+        }
     }
 }
 
@@ -321,9 +327,7 @@ fn run(show: &mut Show, label: &str, medium: Medium, tears: &[usize]) {
         }
     }
     show.println(label);
-    for (name, count) in tally.rows() {
-        println!(show; "  {name}: {count}");
-    }
+    tally.print(show);
     show.expect(tally.wrong == 0, "a file is not what its past makes it");
 }
 
