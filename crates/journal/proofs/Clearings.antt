@@ -1,11 +1,11 @@
 -- Clearing changes nothing that is shown, wherever it is cut.
-use Rattle.std.proofs.Common.{◌≡◌, ℕ, ◌+◌, ◌<◌, ◌≤◌, cond, List, [], ◌∷◌, ◌++◌, length, set, Some, None, Option, refl, arith, sym, ap, ◌∙◌, subst, ⊎_elim, get_or-set_same, set-set}
+use Rattle.std.proofs.Common.{◌≡◌, ℕ, ◌+◌, ◌<◌, ◌≤◌, cond, List, [], ◌∷◌, ◌++◌, length, set, Some, None, Option, refl, arith, sym, ap, ◌∙◌, subst, ⊎_elim, get_or-set_same}
 use Rattle.std.proofs.Math.Seq.{set_out}
 use Rattle.std.proofs.lemmas.Bool.{cases_lt, lt-ltb, le-ltb}
 use Rattle.device.specs.Effects.{Slot, Slots, blank}
 use Rattle.journal.specs.Layout.{mark_in, copy_in, places_in, pending_in, shown}
 use Rattle.journal.specs.Writes.{Write, write_of, clear_writes_of, clear_writes, stood}
-use Rattle.journal.proofs.Views.{length_shown, length_places_in, parts_of, slot_written, shown_raised, zeros_done, zeros_cut}
+use Rattle.journal.proofs.Views.{length_shown, length_places_in, parts_of, slot_kept, slot_written, shown_raised, zeros_done, zeros_cut}
 use Rattle.journal.proofs.Runs.{AtEachCut, none, next}
 
 pub clear_none : (s : Slots) → clear_writes_of None s ≡ []
@@ -47,7 +47,7 @@ module _ (s : Slots) (i : ℕ) (is : pending_in (mark_in s) ≡ Some i) (some : 
   settles_in : i < length (shown s) → Settles s (write_of (i + 2) (copy_in s) ∷ write_of 0 blank ∷ [])
   settles_in h =
       let at = λ (x : Slot). slot_written (parts_of s some) x i (omega (arith, length_shown s)) in
-      let kept = λ (x : Slot). shown_raised i (at x) is ∙ set-set (places_in s) i x (copy_in s) ∙ sym was in
+      let kept = λ (x : Slot). slot_kept s i x (omega (arith, length_shown s)) is in
       let x = copy_in s in
       record { same = next (λ k. kept _) (zeros_settle s (set s (i + 2) x) (at x).long (kept x) ((at x).places ∙ sym was)); low = zeros_low (set s (i + 2) x) (at x).long }
 

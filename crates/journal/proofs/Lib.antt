@@ -5,3 +5,4 @@ pub mod Clearings
 pub mod Placings
 pub mod Readings
 pub mod Wholes
+pub mod Ends

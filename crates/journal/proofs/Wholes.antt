@@ -1,10 +1,10 @@
 -- What the writes below mean above, and that they leave the unused slots alone.
-use Rattle.std.proofs.Common.{◌≡◌, ℕ, ◌+◌, ◌<◌, Bool, true, false, cond, nat_lt, ◌⊎◌, List, [], ◌∷◌, length, set, Some, None, Ok, Err, Option, refl, arith, sym, ap, ◌∙◌, subst, inl, inr, ⊎_elim, drop-set-lt}
+use Rattle.std.proofs.Common.{◌≡◌, ℕ, ◌+◌, ◌<◌, Bool, true, false, cond, nat_lt, ◌⊎◌, List, [], ◌∷◌, length, set, Some, None, Ok, Err, Option, refl, arith, sym, ap, ◌∙◌, subst, inl, inr, ⊎_elim}
 use Rattle.std.proofs.lemmas.Bool.{cases_lt, lt-ltb, le-ltb}
 use Rattle.device.specs.Effects.{Slot, Slots, Answer, Writing, Restarting}
 use Rattle.journal.specs.Layout.{most_slots, mark_in, pending_in, unused_in, shown}
 use Rattle.journal.specs.Writes.{Write, clear_writes_of, clear_writes, place_writes, slot_writes, restart_writes, stood, Ran, Within, WritingBelow, RestartingBelow}
-use Rattle.journal.proofs.Views.{length_shown}
+use Rattle.journal.proofs.Views.{length_shown, used}
 use Rattle.journal.proofs.Runs.{stood_append, AtEachCut, none, next, AtEachCut_done, AtEachCut_short, AtEachCut_ran, at_each_cut_append, AtEachCut_weaker, within_append}
 use Rattle.journal.proofs.Clearings.{clear_none, clear_in, clear_out, Settles, settles}
 use Rattle.journal.proofs.Placings.{placing, placed}
@@ -50,7 +50,7 @@ restarting_means s (Err e) t on' (inl (n, a, q)) = (n, ap shown a, q)
 restarting_means s (Err e) t on' (inr (n, c, q)) = (n, AtEachCut_short (restarting s) c, q)
 
 -- ---- what is not used
-within_clear : (o : Option ℕ) (s : Slots) → Within (2 + most_slots) (clear_writes_of o s)
+pub within_clear : (o : Option ℕ) (s : Slots) → Within (2 + most_slots) (clear_writes_of o s)
 within_clear None s = subst (λ ws. Within (2 + most_slots) ws) (sym (clear_none s)) tt
 within_clear (Some i) s =
     ⊎_elim
@@ -61,10 +61,10 @@ within_clear (Some i) s =
 unused : (z s : Slots) (ws : List Write) → Within (2 + most_slots) ws → unused_in s ≡ z → AtEachCut (λ t. unused_in t ≡ z) s ws
 unused z s [] h e = none e
 unused z s (w ∷ ws) h e =
-    let same = λ (x : Slot). drop-set-lt (2 + most_slots) s w.slot x h.0 ∙ e in
+    let same = λ (x : Slot). used s w.slot x h.0 ∙ e in
     next (λ m. same _) (unused z (set s w.slot w.bytes) ws h.1 (same w.bytes))
 
-ran_unused : (s : Slots) (ws : List Write) (r : Answer) (t : Slots) (on' : Bool) → Within (2 + most_slots) ws → Ran s ws r t on' → unused_in t ≡ unused_in s
+pub ran_unused : (s : Slots) (ws : List Write) (r : Answer) (t : Slots) (on' : Bool) → Within (2 + most_slots) ws → Ran s ws r t on' → unused_in t ≡ unused_in s
 ran_unused s ws r t on' h d = AtEachCut_ran r t on' (unused (unused_in s) s ws h refl) d
 
 within_write : (s : Slots) (i : ℕ) (b : Slot) → i < length (shown s) → Within (2 + most_slots) (slot_writes s i b)

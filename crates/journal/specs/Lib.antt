@@ -1,3 +1,4 @@
 pub mod Layout
 pub mod Writes
 pub mod Sized
+pub mod Ends

@@ -8,6 +8,7 @@
 ghost use Rattle.std.specs.Prelude.{◌≡◌, ◌+◌, ◌<◌, ◌≤◌, true, false, length, map, Some, None, MatchResult};
 ghost use Rattle.device.specs.Effects.{Writing, Restarting, slot_size, blank};
 ghost use Rattle.journal.specs.Layout.{shown, copy_in, most_slots, mark_of, mark_in, pending_in, unused_in};
+ghost use Rattle.journal.specs.Ends.{WritingEnds, RestartingEnds};
 ghost use Rattle.journal.specs.Sized.{shown_sized};
 ghost use Rattle.journal.specs.Writes.{write_of, clear_writes_of, clear_writes, place_writes, Within, Ran, WritingBelow, RestartingBelow};
 
@@ -232,6 +233,7 @@ impl<D: TearSlots> WriteSlots for Journal<D> {
     fn write(&mut self, index: usize, bytes: &[u8; 64]) -> Result<(), DeviceFault>
         ensures meaning { Writing (shown (D.ReadSlots.slots self.old.below)) (D.ReadSlots.powered self.old.below) index bytes.now result (shown (D.ReadSlots.slots self.new.below)) (D.ReadSlots.powered self.new.below) }
         ensures below { WritingBelow (D.ReadSlots.slots self.old.below) (D.ReadSlots.powered self.old.below) index bytes.now result (D.ReadSlots.slots self.new.below) (D.ReadSlots.powered self.new.below) }
+        ensures ends { WritingEnds (D.ReadSlots.slots self.old.below) (D.ReadSlots.powered self.old.below) index bytes.now result (D.ReadSlots.slots self.new.below) }
         ensures unused { unused_in (D.ReadSlots.slots self.new.below) ≡ unused_in (D.ReadSlots.slots self.old.below) }
         ensures wiped { self.old.pad ≡ blank → self.new.pad ≡ blank }
     {
@@ -243,6 +245,7 @@ impl<D: TearSlots> WriteSlots for Journal<D> {
     fn restart(&mut self) -> Result<(), DeviceFault>
         ensures meaning { Restarting (shown (D.ReadSlots.slots self.old.below)) result (shown (D.ReadSlots.slots self.new.below)) (D.ReadSlots.powered self.new.below) }
         ensures below { RestartingBelow (D.ReadSlots.slots self.old.below) result (D.ReadSlots.slots self.new.below) (D.ReadSlots.powered self.new.below) }
+        ensures ends { RestartingEnds (D.ReadSlots.slots self.old.below) result (D.ReadSlots.slots self.new.below) }
         ensures unused { unused_in (D.ReadSlots.slots self.new.below) ≡ unused_in (D.ReadSlots.slots self.old.below) }
         ensures wiped { self.old.pad ≡ blank → self.new.pad ≡ blank }
     {
