@@ -1,4 +1,5 @@
-//! The cases, one a row. A refusal of 0 says that the call has to be done.
+//! The cases, one a row. A refusal of 0 says that the call has to be done. What has no name is checked alone, and neither
+//! shown nor counted.
 use crate::edits::Edit::{self, Beyond, Length, Put, Shorter, Turn, TurnLast};
 use fault::Call::{self, Issue, Make, Redeem, Reopen};
 
@@ -69,9 +70,9 @@ pub(crate) const HEADS: [FileCase; 9] = [
     ("a tree of 17 levels", &[(0, 1, 17)], 4, 0),
     ("last byte 1", &[(0, 63, 1)], 4, 0),
     ("65541 numbers issued", &[(0, 7, 1)], 4, 0),
-    ("generator 1", &[(0, 26, 1)], 4, 0),
+    ("", &[(0, 26, 1)], 4, 0),
     ("generator 3", &[(0, 26, 3)], 4, 0),
-    ("sealer 1", &[(0, 27, 1)], 4, 0),
+    ("", &[(0, 27, 1)], 4, 0),
     ("sealer 3", &[(0, 27, 3)], 4, 0),
     ("first index 18", &[(0, 5, 18)], 5, 0),
 ];
@@ -80,12 +81,12 @@ pub(crate) const LINKS: [FileCase; 13] = [
     ("third, first byte 1", &[(15, 0, 1)], 5, 15),
     ("third, depth 17", &[(15, 1, 17)], 5, 15),
     ("third, first number 5", &[(15, 3, 5)], 5, 15),
-    ("third, byte 6 is 1", &[(15, 6, 1)], 5, 15),
+    ("", &[(15, 6, 1)], 5, 15),
     ("third, byte 31 is 1", &[(15, 31, 1)], 5, 15),
     ("third leads to slot 18", &[(15, 5, 18)], 5, 15),
     ("third leads far away", &[(15, 4, 0xff)], 5, 15),
     ("third leads to the first", &[(15, 5, 17)], 5, 17),
-    ("last leads to the first", &[(2, 5, 17)], 5, 17),
+    ("", &[(2, 5, 17)], 5, 17),
     ("third leads to itself", &[(15, 5, 15)], 5, 15),
     ("third begins at 0", &[(15, 3, 0)], 5, 15),
     (
@@ -101,7 +102,7 @@ pub(crate) const UNCOVERED: [FileCase; 5] = [
     ("count of issued numbers 0", &[(0, 9, 0)], 6, 0),
     ("last record cut off", &[(3, 5, 0)], 6, 32768),
     ("third record left out", &[(16, 5, 14)], 6, 5),
-    ("fourth record left out", &[(15, 5, 13)], 6, 8),
+    ("", &[(15, 5, 13)], 6, 8),
     ("no chain", &[(0, 5, 0)], 6, 5),
 ];
 
@@ -177,14 +178,28 @@ pub(crate) const JOINED: [Step; 6] = [
         15,
         17,
     ),
-    ("  restarted, reopened", Reopen, 2, NEVER, 0, 0),
-    ("  number 2 again", Redeem, 2, NEVER, 11, 2),
+    ("", Reopen, 2, NEVER, 0, 0),
+    (
+        "  restarted, reopened, number 2 again",
+        Redeem,
+        2,
+        NEVER,
+        11,
+        2,
+    ),
 ];
 
 pub(crate) const ERASED: [Step; 3] = [
     ("cut at the erasure", Redeem, 2, (2, 0), 15, 16),
-    ("  restarted, reopened", Reopen, 2, NEVER, 0, 0),
-    ("  number 2 again", Redeem, 2, NEVER, 11, 2),
+    ("", Reopen, 2, NEVER, 0, 0),
+    (
+        "  restarted, reopened, number 2 again",
+        Redeem,
+        2,
+        NEVER,
+        11,
+        2,
+    ),
 ];
 
 /// The journal makes five raw writes of each write, and the fourth is the slot itself.
@@ -199,6 +214,6 @@ pub(crate) const TORN: [Step; 5] = [
         0,
     ),
     ("  the next restart cut", Reopen, 2, (0, 0), 15, 0),
-    ("  restarted, reopened", Reopen, 2, NEVER, 0, 0),
+    ("  restarted and reopened", Reopen, 2, NEVER, 0, 0),
     ("  number 2 again", Redeem, 2, NEVER, 11, 2),
 ];

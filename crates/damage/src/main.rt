@@ -1,9 +1,7 @@
-//! Feeds a server damaged files, tickets and records, and cuts its power: every refusal comes at least once. Then shows what
-//! a file holds, and works out keys from it.
+//! Feeds a server damaged files, tickets and records, and cuts its power: every refusal comes at least once.
 #![tactic(auto)]
 
 mod cases;
-mod chains;
 mod edits;
 mod report;
 mod stand;
@@ -76,20 +74,23 @@ fn past_the_end(report: &mut Report, file: &[u8; ROW]) {
 }
 
 fn first_pair(report: &mut Report) {
-    let stand = Stand::new(report, ShaGenerator, HmacSealer, 5, 0);
+    let stand = Stand::new(report, ShaGenerator, HmacSealer);
     stand.short_buffers(report);
     stand.slot_counts(report);
     stand.bad_records(report);
-    stand.bad_files(report, "Damaged heads", &HEADS);
+    report.show.println("Damaged heads");
     stand.reopen(report, "a file of zeros", &[0; ROW], 4, 0);
+    stand.bad_files(report, &HEADS);
     other_pairs(report, &stand);
-    stand.bad_files(
-        report,
-        "Damaged records of the chain, whose first three are in slots 17, 16 and 15",
-        &LINKS,
-    );
-    let title = "Numbers that are not issued and lie under no record";
-    stand.bad_files(report, title, &UNCOVERED);
+    report.show.println("Damaged records of the chain");
+    report
+        .show
+        .println("  the first three records are in slots 17, 16 and 15");
+    stand.bad_files(report, &LINKS);
+    report
+        .show
+        .println("Numbers that are not issued and lie under no record");
+    stand.bad_files(report, &UNCOVERED);
     stand.series(report, Bed::Memory, &stand.file, &RESTORED);
     stand.all_issued(report);
     stand.own_cases(report);
@@ -98,10 +99,8 @@ fn first_pair(report: &mut Report) {
 }
 
 fn second_pair(report: &mut Report) {
-    let stand = Stand::new(report, ChaChaGenerator, ChaChaSealer, 5, 0);
+    let stand = Stand::new(report, ChaChaGenerator, ChaChaSealer);
     stand.own_cases(report);
-    let stand = Stand::new(report, ChaChaGenerator, ChaChaSealer, 6, 5);
-    stand.show_file(report);
 }
 
 fn main(rt: HostRuntime) -> anyhow::Result<()> {

@@ -49,34 +49,65 @@ impl<'a> Report<'a> {
         }
     }
 
-    fn note(&mut self, number: u8, clean: bool, same: bool) {
+    // Judges what a refusal left, and counts it where it is shown.
+    fn note(&mut self, shown: bool, number: u8, clean: bool, same: bool) {
         let dark = number == 15;
-        add(&mut self.seen[number as usize % 17], true);
-        add(&mut self.refused, true);
-        add(&mut self.clean, clean);
-        add(&mut self.dark, dark);
-        add(&mut self.same, same && !dark);
+        if shown {
+            add(&mut self.seen[number as usize % 17], true);
+            add(&mut self.refused, true);
+            add(&mut self.clean, clean);
+            add(&mut self.dark, dark);
+            add(&mut self.same, same && !dark);
+        }
         self.show.expect(clean, "a lent buffer is not zero");
         self.show.expect(same || dark, "a slot has changed");
     }
 
-    /// Shows a call, which has to be refused with a number at a place, or to be done where the number is 0.
+    // Shows a refusal with its place.
+    fn show_refusal(&mut self, what: &str, fault: &Fault) {
+        let Fault {
+            refusal,
+            call,
+            layer,
+            place,
+            step,
+        } = *fault;
+        let number = refusal.number();
+        print!(self.show; "  {what}: refusal {number}, call {call}, layer {layer}, place {place}");
+        match step {
+            Some(step) => println!(self.show; ", step {step}"),
+            None => self.show.println(""),
+        }
+    }
+
+    // Shows a call that is done, by what it wrote.
+    fn show_done(&mut self, what: &str, numbers: (usize, u32)) {
+        match numbers {
+            (0, _) => println!(self.show; "  {what}: true"),
+            (length, calls) => println!(self.show;
+                "  {what}: done, {length} bytes by {calls} generator calls"
+            ),
+        }
+    }
+
+    /// Judges a call, which has to be refused with a number at a place, or to be done where the number is 0. Shows it where
+    /// it has a name.
     pub(crate) fn tell(&mut self, what: &str, outcome: &Outcome, number: u8, place: u32) {
+        let shown = !what.is_empty();
         match outcome.fault {
             Some(fault) => {
-                println!(self.show; "  {what}: {fault}");
+                if shown {
+                    self.show_refusal(what, &fault);
+                }
                 let told = fault.refusal.number();
-                self.note(told, outcome.clean, outcome.same);
+                self.note(shown, told, outcome.clean, outcome.same);
                 let right = told == number && fault.place == place;
                 self.show
                     .expect(right, "a call is refused otherwise than it should be");
             }
             None => {
-                match outcome.numbers {
-                    (0, _) => println!(self.show; "  {what}: done"),
-                    (length, calls) => println!(self.show;
-                        "  {what}: done, {length} bytes by {calls} generator calls"
-                    ),
+                if shown {
+                    self.show_done(what, outcome.numbers);
                 }
                 self.show
                     .expect(number == 0, "a call is done that should be refused");
@@ -101,9 +132,9 @@ impl<'a> Report<'a> {
                 let number = refusal.number();
                 let layer = layer_of(refusal);
                 println!(self.show;
-                    "  slot 18 of 18 slots, {what}: no call, refusal {number} ({refusal}), layer {layer}, place 18"
+                    "  slot 18 of 18 slots, {what}: refusal {number}, no call, layer {layer}, place 18"
                 );
-                self.note(number, clean, same);
+                self.note(true, number, clean, same);
             }
         }
     }
@@ -114,17 +145,16 @@ impl<'a> Report<'a> {
         for count in self.seen {
             add(&mut kinds, count > 0);
         }
-        let rows = [
-            ("refusals", self.refused),
-            ("kinds of the 16", kinds),
-            ("lent buffers zero afterwards", self.clean),
-            ("power lost", self.dark),
-            ("else every slot as it was", self.same),
-        ];
-        self.show.println("In all");
-        for (what, count) in rows {
-            println!(self.show; "  {what}: {count}");
-        }
+        let refused = self.refused;
+        println!(self.show; "In all: {refused} refusals, {kinds} of the 16 kinds");
+        println!(self.show;
+            "  lent buffers zero afterwards: {} of {refused}",
+            self.clean
+        );
+        println!(self.show;
+            "  power lost: {}; else every slot as it was: {}",
+            self.dark, self.same
+        );
         self.show
             .expect(kinds == 16, "a kind of refusal has not come");
     }

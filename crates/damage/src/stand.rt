@@ -22,8 +22,8 @@ pub(crate) const ROW: usize = 1280;
 
 pub(crate) const FILE: usize = 128;
 
-/// How many tickets there may be.
-const TICKETS: usize = 6;
+/// How many tickets are issued. Number 0 is redeemed again.
+const ISSUED: usize = 5;
 
 // The most marks that are lent here.
 const MARKS: usize = 1025;
@@ -68,7 +68,7 @@ pub(crate) struct Stand<G, S> {
     pub(crate) g: G,
     pub(crate) s: S,
     pub(crate) file: [u8; ROW],
-    pub(crate) tickets: [Bytes; TICKETS],
+    pub(crate) tickets: [Bytes; ISSUED],
 }
 
 /// The record of guest k's session.
@@ -110,6 +110,28 @@ impl<G: Generator + Copy, S: Sealer + Copy> Stand<G, S> {
         }
     }
 
+    // Makes any call. Making and reopening give no numbers.
+    fn answer<D: WriteSlots>(
+        &self,
+        device: D,
+        asked: &Asked,
+        room: &mut [u8],
+        marks: &mut [u8],
+        scratch: &mut Scratch,
+    ) -> (Held<D, G, S>, Result<(usize, u32), Fault>) {
+        match asked.call {
+            Call::Make | Call::Reopen => {
+                let (server, fault) = self.begin(device, asked.call, marks, scratch);
+                let answer = match fault {
+                    Some(fault) => Err(fault),
+                    None => Ok((0, 0)),
+                };
+                (server, answer)
+            }
+            _ => self.serve(device, asked, room, marks, scratch),
+        }
+    }
+
     /// Makes a call on a device. What is lent for writing holds sevens before.
     pub(crate) fn call<D: WriteSlots>(&self, device: D, asked: &Asked) -> (D, Outcome) {
         let mut row = [7; ROOM];
@@ -118,32 +140,19 @@ impl<G: Generator + Copy, S: Sealer + Copy> Stand<G, S> {
         scratch.slot = [7; 64];
         let room = asked.room.min(ROOM);
         let lent = asked.marks.min(MARKS);
-        let (server, fault, numbers) = match asked.call {
-            Call::Make | Call::Reopen => {
-                let (server, fault) = self.begin(
-                    device,
-                    asked.call,
-                    &mut marks[..lent],
-                    &mut scratch,
-                );
-                (server, fault, (0, 0))
-            }
-            _ => {
-                let (server, answer) = self.serve(
-                    device,
-                    asked,
-                    &mut row[..room],
-                    &mut marks[..lent],
-                    &mut scratch,
-                );
-                (server, answer.err(), answer.unwrap_or((0, 0)))
-            }
-        };
+        let (server, answer) = self.answer(
+            device,
+            asked,
+            &mut row[..room],
+            &mut marks[..lent],
+            &mut scratch,
+        );
+        let numbers = answer.unwrap_or((0, 0));
         let clean = all_are(&row[..room], 0)
             && all_are(&marks[..lent], 0)
             && all_are(&scratch.slot, 0);
         let outcome = Outcome {
-            fault,
+            fault: answer.err(),
             numbers,
             given: Bytes {
                 row,
@@ -199,40 +208,41 @@ impl<G: Generator + Copy, S: Sealer + Copy> Stand<G, S> {
         outcome.given
     }
 
-    /// Makes a tree, issues the first tickets and redeems one.
-    pub(crate) fn new(report: &mut Report, g: G, s: S, issued: usize, spent: usize) -> Stand<G, S> {
+    /// Makes a tree, issues the first tickets and redeems number 0.
+    pub(crate) fn new(report: &mut Report, g: G, s: S) -> Stand<G, S> {
         let generator = g.number();
         let sealer = s.number();
         println!(report.show;
-            "A file of {SLOTS} slots, generator {generator}, sealer {sealer}, {issued} numbers issued, number {spent} redeemed"
+            "A file of {SLOTS} slots, generator {generator}, sealer {sealer}, {ISSUED} numbers issued, number 0 redeemed"
         );
         let mut stand = Stand {
             g,
             s,
             file: [0; ROW],
-            tickets: [Bytes::none(); TICKETS],
+            tickets: [Bytes::none(); ISSUED],
         };
         let _made = stand.lay(report, Call::Make, Bytes::none());
-        for k in 0..issued.min(TICKETS) {
+        for k in 0..ISSUED {
             stand.tickets[k] = stand.lay(report, Call::Issue, record(k));
         }
-        let ticket = stand.tickets[spent % TICKETS];
-        let _state = stand.lay(report, Call::Redeem, ticket);
+        let first = stand.tickets[0];
+        let _state = stand.lay(report, Call::Redeem, first);
         stand
     }
 
-    /// The key of a number, worked out from a node and its value, and the generator calls made.
-    pub(crate) fn key_from(&self, node: &Node, value: &[u8; 32], n: u32) -> ([u8; 32], u32) {
-        let mut key = *value;
+    // The key of a number.
+    fn key_of(&self, n: u32) -> [u8; 32] {
+        let top = Node { depth: 0, first: 0 };
+        let mut key = ROOT;
         let mut left = [0; 32];
         let mut right = [0; 32];
-        let calls = descend(&self.g, LEVELS, node, n, &mut key, &mut left, &mut right);
-        (key, calls.unwrap_or(0))
+        let _calls = descend(&self.g, LEVELS, &top, n, &mut key, &mut left, &mut right);
+        key
     }
 
     /// A ticket whose heading and seal are right, for any plain.
     pub(crate) fn forge(&self, n: u32, plain: &[u8]) -> Bytes {
-        let (key, _calls) = self.key_from(&Node { depth: 0, first: 0 }, &ROOT, n);
+        let key = self.key_of(n);
         let mut front = [0; 20];
         heading(&KEY_NAME, n, &mut front);
         let mut ticket = Bytes::none();

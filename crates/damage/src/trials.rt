@@ -72,7 +72,7 @@ impl<G: Generator + Copy, S: Sealer + Copy> Stand<G, S> {
             self.attempt(report, what, &Asked::new(Call::Issue, sent), 3, 0);
         }
         let sound = Asked::new(Call::Issue, record(5));
-        self.attempt(report, "the same record undamaged", &sound, 0, 0);
+        self.attempt(report, "the same record undamaged, issue", &sound, 0, 0);
     }
 
     /// Reopens a file that is refused, or done where the number is 0.
@@ -91,8 +91,7 @@ impl<G: Generator + Copy, S: Sealer + Copy> Stand<G, S> {
     }
 
     /// Reopens damaged files.
-    pub(crate) fn bad_files(&self, report: &mut Report, title: &str, cases: &[FileCase]) {
-        report.show.println(title);
+    pub(crate) fn bad_files(&self, report: &mut Report, cases: &[FileCase]) {
         for (what, changes, number, place) in cases {
             let mut row = self.file;
             change(&mut row, changes);
@@ -159,9 +158,11 @@ impl<G: Generator + Copy, S: Sealer + Copy> Stand<G, S> {
         let (length, calls) = answers[1].unwrap_or((0, 0));
         state.length = length;
         let own = same_bytes(state.part(), record(1).part());
+        println!(report.show; "  one server, the changed ticket of number 1: refused {refused}");
         println!(report.show;
-            "  one server: the changed ticket of number 1, refused: {refused}; the ticket as it was, {length} bytes by {calls} generator calls; the state that was issued: {own}"
+            "  the same server, the ticket as it was: done, {length} bytes by {calls} generator calls"
         );
+        println!(report.show; "  it is the state that was issued: {own}");
         report
             .show
             .expect(refused && own, "the server has not gone on");

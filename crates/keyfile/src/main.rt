@@ -1,0 +1,161 @@
+//! Lays out a key file in memory with one number spent, reads it back, and works out keys from it; then reads it damaged
+//! in each way that is refused.
+#![tactic(auto)]
+
+mod cases;
+mod lay;
+
+use cases::{DAMAGED, damaged};
+use chain::{Survey, read_file};
+use device::{ReadSlots, WriteSlots};
+use fault::Halt;
+use generator::descend;
+use generators::ChaChaGenerator;
+use lay::{FILE, SLOTS, SPENT, TOP, lay_out};
+use memory::Memory;
+use octets::same_bytes;
+use samples::{ROOT, Show, all_are};
+use serving::record_at;
+use tree::{LEVELS, Node};
+
+fn read<D: ReadSlots>(device: &D, generator: u8, asked: Option<u32>) -> Result<Survey, Halt> {
+    let mut marks = [0; SLOTS];
+    read_file(device, generator, 1, asked, &mut marks, &mut [0; 64])
+}
+
+// The value in a slot.
+fn value_at<D: ReadSlots>(device: &D, slot: u16) -> [u8; 32] {
+    let mut bytes = [0; 64];
+    let _read = device.read(slot as usize, &mut bytes);
+    let mut value = [0; 32];
+    value.copy_from_slice(&bytes[32..]);
+    value
+}
+
+fn show_head(show: &mut Show, survey: &Survey) {
+    let head = survey.head;
+    println!(show;
+        "head: first index {}, {} issued, generator {}, sealer {}",
+        head.first, head.issued, head.generator, head.sealer
+    );
+    println!(show; "chain: {} records", survey.length);
+}
+
+fn show_chain<D: ReadSlots>(show: &mut Show, device: &D, survey: &Survey) {
+    let mut slot = survey.head.first;
+    for _ in 0..survey.length {
+        if let Some(fields) = record_at(device, slot) {
+            let [a, b, c, ..] = value_at(device, slot);
+            println!(show;
+                "  slot {slot}: depth {}, first {}, value {a:02x} {b:02x} {c:02x} ..",
+                fields.depth, fields.first
+            );
+            slot = fields.next;
+        }
+    }
+}
+
+// The key of a number, worked out from a node and its value, and the generator calls made.
+fn key_from(node: &Node, value: &[u8; 32], n: u32) -> ([u8; 32], u32) {
+    let mut key = *value;
+    let mut left = [0; 32];
+    let mut right = [0; 32];
+    let calls = descend(
+        &ChaChaGenerator,
+        LEVELS,
+        node,
+        n,
+        &mut key,
+        &mut left,
+        &mut right,
+    );
+    (key, calls.unwrap_or(0))
+}
+
+// Works a number's key out from the record that covers it, and compares it with the key from the root.
+fn show_key<D: ReadSlots>(show: &mut Show, device: &D, n: u32) {
+    let found = read(device, 1, Some(n))
+        .ok()
+        .and_then(|survey| survey.found);
+    let Some(found) = found else {
+        println!(show; "number {n}: under no record, so its key cannot be worked out");
+        show.expect(n == SPENT, "a number is under no record");
+        return;
+    };
+    let Node { depth, first } = found.node;
+    let (key, calls) = key_from(&found.node, &value_at(device, found.slot), n);
+    let (from_root, _) = key_from(&TOP, &ROOT, n);
+    let same = same_bytes(&key, &from_root);
+    let [a, b, ..] = key;
+    println!(show;
+        "number {n}: under ({depth}, {first}), key {a:02x} {b:02x} .. by {calls} calls, as from the root: {same}"
+    );
+    show.expect(same, "a key is not the tree's");
+}
+
+// Shows a reading that has to be refused with a number at a place.
+fn refused(show: &mut Show, what: &str, answer: Result<Survey, Halt>, number: u8, place: u32) {
+    match answer {
+        Ok(survey) => {
+            println!(show; "{what}: read, {} records", survey.length);
+            show.expect(false, "a file is read that should be refused");
+        }
+        Err(halt) => {
+            let told = halt.refusal.number();
+            println!(show; "{what}: refusal {told} at {}", halt.place);
+            let right = told == number && halt.place == place;
+            show.expect(right, "a file is refused otherwise than it should be");
+        }
+    }
+}
+
+// Reads a sound file with another generator, too few marks and no power.
+fn refused_sound(show: &mut Show, file: &[u8; FILE]) {
+    let mut row = *file;
+    let mut device = Memory::new(&mut row);
+    refused(
+        show,
+        "server with generator 2",
+        read(&device, 2, None),
+        4,
+        0,
+    );
+    let mut slot = [7; 64];
+    let few = read_file(&device, 1, 1, None, &mut [7; 19], &mut slot);
+    refused(show, "marks for 19 slots", few, 1, 0);
+    device.appoint(0, 0);
+    let _cut = device.write(19, &[0; 64]);
+    let mut marks = [7; SLOTS];
+    let dark = read_file(&device, 1, 1, None, &mut marks, &mut slot);
+    refused(show, "no power", dark, 15, 0);
+    let clean = all_are(&marks, 0) && all_are(&slot, 0);
+    println!(show; "the lent buffers are zero: {clean}");
+    show.expect(clean, "a lent buffer is not zero");
+}
+
+// Shows the head, the chain and some keys.
+fn show_file<D: ReadSlots>(show: &mut Show, device: &D) {
+    if let Ok(survey) = read(device, 1, None) {
+        show_head(show, &survey);
+        show_chain(show, device, &survey);
+    }
+    for n in [0, 4, SPENT, 6, 65535] {
+        show_key(show, device, n);
+    }
+}
+
+fn main(rt: HostRuntime) -> anyhow::Result<()> {
+    let mut show = Show::new(&rt);
+    let mut file = [0; FILE];
+    let done = lay_out(Memory::new(&mut file));
+    println!(show; "a file of {SLOTS} slots with number {SPENT} spent, laid out: {done}");
+    show_file(&mut show, &Memory::new(&mut file));
+    show.println("damaged");
+    for (what, changes, number, place) in DAMAGED {
+        let mut bad = damaged(&file, changes);
+        let answer = read(&Memory::new(&mut bad), 1, None);
+        refused(&mut show, what, answer, number, place);
+    }
+    refused_sound(&mut show, &file);
+    show.end()
+}
