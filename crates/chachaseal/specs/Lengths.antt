@@ -1,5 +1,5 @@
 -- The lengths of a keystream block and of a tag.
-use Rattle.std.specs.Prelude.{◌≡◌, ℕ, ◌+◌, List, ◌++◌, length}
+use Rattle.std.specs.Prelude.{◌≡◌, ℕ, ◌+◌, ◌%◌, ◌^◌, List, ◌++◌, length}
 use Rattle.std.proofs.Common.{arith}
 use Rattle.std.proofs.lemmas.List.{length-take-le}
 use Rattle.octets.specs.Buffers.{zeros}
@@ -10,7 +10,7 @@ use Rattle.chachaseal.specs.Meaning.{stream_block, tag_of}
 
 pub stream_long : (key : List ℕ) (index : ℕ) → length (stream_block key index) ≡ 64
 unfolding stream_block
-stream_long key index = block_long key (1 + index) (zeros 12)
+stream_long key index = block_long key ((index + 1) % 2 ^ 32) (zeros 12)
 
 pub tag_long : (key heading bytes : List ℕ) → length (tag_of key heading bytes) ≡ 16
 unfolding tag_of

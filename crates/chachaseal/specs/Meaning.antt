@@ -1,13 +1,13 @@
 -- What sealer 1 means.
-use Rattle.std.specs.Prelude.{ℕ, ◌+◌, List, ◌++◌, take}
+use Rattle.std.specs.Prelude.{ℕ, ◌+◌, ◌%◌, ◌^◌, List, ◌++◌, take}
 use Rattle.octets.specs.Buffers.{zeros}
 use Rattle.chacha.specs.Cipher.{block_of}
 use Rattle.hmac.specs.Mac.{hmac}
 use Rattle.sealing.specs.Covering.{sealing_of}
 
--- the keystream: its block i is the ChaCha20 block at the counter i + 1, where the nonce is zero
+-- the keystream: its block i is the ChaCha20 block at the counter i + 1, a word of 32 bits, where the nonce is zero
 unfoldable pub stream_block : List ℕ → ℕ → List ℕ
-stream_block key i = block_of key (1 + i) (zeros 12)
+stream_block key i = block_of key ((i + 1) % 2 ^ 32) (zeros 12)
 
 -- the tag: the first sixteen bytes of the HMAC of the heading and the covered plain
 unfoldable pub tag_of : List ℕ → List ℕ → List ℕ → List ℕ

@@ -63,8 +63,8 @@ impl Scheme for ChaChaSealer {
     }
 
     #[tactic(auto, using(session::proofs::Rows::filled_whole), unfolding(crate::specs::Meaning::stream_block))]
-    fn block(&self, key: &[u8; 32], index: u16, pad: &mut [u8; 64]) {
-        chacha::block(key, 1 + u32::from(index), &[0; 12], pad);
+    fn block(&self, key: &[u8; 32], index: u32, pad: &mut [u8; 64]) {
+        chacha::block(key, index.wrapping_add(1), &[0; 12], pad);
     }
 
     #[tactic(auto, unfolding(crate::specs::Meaning::tag_of))]

@@ -38,10 +38,10 @@ pub struct HmacSealer;
 
 // The four bytes of a block's place.
 #[tactic(auto, using(octets::proofs::Fielded::bytes4))]
-fn place(index: u16) -> [u8; 4]
+fn place(index: u32) -> [u8; 4]
     ensures { result ≡ bytes_of 4 index }
 {
-    u32::from(index).to_be_bytes()
+    index.to_be_bytes()
 }
 
 impl Scheme for HmacSealer {
@@ -72,7 +72,7 @@ impl Scheme for HmacSealer {
     }
 
     #[tactic(auto, using(crate::proofs::Macs::mac_filled), unfolding(crate::specs::Meaning::stream_block))]
-    fn block(&self, key: &[u8; 32], index: u16, pad: &mut [u8; 64]) {
+    fn block(&self, key: &[u8; 32], index: u32, pad: &mut [u8; 64]) {
         let mut mac = Hmac::new(key, pad);
         mac.update(&[STREAM]);
         mac.update(&place(index));

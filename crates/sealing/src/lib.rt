@@ -38,7 +38,7 @@ pub trait Scheme {
         ensures { result ≡ extra self.now };
 
     /// Writes a block of the keystream to the start of the pad, with zeros after it.
-    fn block(&self, key: &[u8; 32], index: u16, pad: &mut [u8; 64])
+    fn block(&self, key: &[u8; 32], index: u32, pad: &mut [u8; 64])
         ensures { pad.new ≡ filled (block self.now key.now index) 64 };
 
     /// Writes the tag of a heading and a covered plain to the start of a row, with zeros after it. The pad holds zeros
