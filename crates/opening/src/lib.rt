@@ -12,20 +12,18 @@ ghost use Rattle.chain.specs.Listing.{marked_all};
 ghost use Rattle.tree.specs.Nodes.{tree_levels};
 ghost use Rattle.steps.specs.Writes.{Ran};
 ghost use Rattle.rules.specs.Files.{blank_writes, tree_writes, is_blank, sweep_writes};
-ghost use Rattle.rules.specs.Kits.{kit_of};
+ghost use Rattle.rules.specs.Kits.{Kit};
 ghost use Rattle.rules.specs.Calls.{Making, Reopening};
 ghost use Rattle.opening.specs.Sweeps.{sweep_at, Admitted};
 
 use chain::read_marking;
 use device::{ReadSlots, WriteSlots};
 use fault::{Halt, Step};
-use generator::Generator;
 use layout::{Head, NodeFields, encode_head, encode_node};
 use marks::{is_marked, room};
 use octets::{Wiped, clear};
 use refusal::Refusal;
 use rules::slot_count;
-use sealer::Sealer;
 use steps::{read_at, restart, write_at};
 use tree::LEVELS;
 
@@ -69,15 +67,15 @@ fn lay_tree<D: WriteSlots>(
 }
 
 /// Makes a tree of a root value under a key name. For the server alone: it works on a bare device.
-pub fn make_on<D: WriteSlots, G: Generator, S: Sealer>(
+pub fn make_on<D: WriteSlots>(
     d: &mut D,
-    g: &G,
-    s: &S,
     root: &[u8; 32],
     name: &[u8; 16],
+    generator: u8,
+    sealer: u8,
     slot: &mut [u8; 64],
 ) -> Result<(), Halt>
-    ensures did { (headed : Bool) × Making (kit_of (G.Generator.expansion g.now) (G.Generator.code g.now) (S.Sealer.sealing s.now) (S.Sealer.overhead s.now) (S.Sealer.number s.now)) tree_levels (D.ReadSlots.slots d.old) (D.ReadSlots.powered d.old) root.now name.now result (D.ReadSlots.slots d.new) (D.ReadSlots.powered d.new) headed }
+    ensures did { (k : Kit) → k.generator ≡ generator → k.sealer ≡ sealer → (headed : Bool) × Making k tree_levels (D.ReadSlots.slots d.old) (D.ReadSlots.powered d.old) root.now name.now result (D.ReadSlots.slots d.new) (D.ReadSlots.powered d.new) headed }
     ensures clean { slot.new ≡ replicate 64 0 }
 {
     let guard = Wiped { pad: slot };
@@ -87,8 +85,8 @@ pub fn make_on<D: WriteSlots, G: Generator, S: Sealer>(
         first: 1,
         issued: 0,
         name: *name,
-        generator: g.number(),
-        sealer: s.number(),
+        generator,
+        sealer,
     };
     lay_tree(d, count, root, &head, guard.pad)
 }
@@ -152,36 +150,36 @@ fn admit<D: ReadSlots>(d: &D, marks: usize) -> Result<u16, Halt>
 }
 
 // Restarts the device, reads the file and sweeps the slots beside its chain.
-fn restart_and_sweep<D: WriteSlots, G: Generator, S: Sealer>(
+fn restart_and_sweep<D: WriteSlots>(
     d: &mut D,
-    g: &G,
-    s: &S,
+    generator: u8,
+    sealer: u8,
     marks: &mut [u8],
     slot: &mut [u8; 64],
 ) -> Result<(), Halt>
-    ensures { Reopening (kit_of (G.Generator.expansion g.now) (G.Generator.code g.now) (S.Sealer.sealing s.now) (S.Sealer.overhead s.now) (S.Sealer.number s.now)) tree_levels (D.ReadSlots.slots d.old) (D.ReadSlots.powered d.old) (length marks.old) result (D.ReadSlots.slots d.new) (D.ReadSlots.powered d.new) }
+    ensures { (k : Kit) → k.generator ≡ generator → k.sealer ≡ sealer → Reopening k tree_levels (D.ReadSlots.slots d.old) (D.ReadSlots.powered d.old) (length marks.old) result (D.ReadSlots.slots d.new) (D.ReadSlots.powered d.new) }
 {
     let count = admit(d, marks.len())?;
     restart(d)?;
-    read_marking(d, g.number(), s.number(), None, marks, slot)?;
+    read_marking(d, generator, sealer, None, marks, slot)?;
     sweep(d, count, marks, slot)
 }
 
 /// Reopens the tree on a device: restarts it, reads its file, and clears the free slots that hold anything but zeros.
 /// The marks and the lent slot hold zeros afterwards. For the server alone: it works on a bare device.
-pub fn reopen_on<D: WriteSlots, G: Generator, S: Sealer>(
+pub fn reopen_on<D: WriteSlots>(
     d: &mut D,
-    g: &G,
-    s: &S,
+    generator: u8,
+    sealer: u8,
     marks: &mut [u8],
     slot: &mut [u8; 64],
 ) -> Result<(), Halt>
-    ensures did { Reopening (kit_of (G.Generator.expansion g.now) (G.Generator.code g.now) (S.Sealer.sealing s.now) (S.Sealer.overhead s.now) (S.Sealer.number s.now)) tree_levels (D.ReadSlots.slots d.old) (D.ReadSlots.powered d.old) (length marks.old) result (D.ReadSlots.slots d.new) (D.ReadSlots.powered d.new) }
+    ensures did { (k : Kit) → k.generator ≡ generator → k.sealer ≡ sealer → Reopening k tree_levels (D.ReadSlots.slots d.old) (D.ReadSlots.powered d.old) (length marks.old) result (D.ReadSlots.slots d.new) (D.ReadSlots.powered d.new) }
     ensures marks { marks.new ≡ zeros (length marks.old) }
     ensures clean { slot.new ≡ replicate 64 0 }
 {
     let guard = Wiped { pad: slot };
-    let done = restart_and_sweep(d, g, s, marks, guard.pad);
+    let done = restart_and_sweep(d, generator, sealer, marks, guard.pad);
     clear(marks);
     done
 }

@@ -25,8 +25,8 @@ use Rattle.rules.specs.Tickets.{number_in, heading_in, sealed_in}
 use Rattle.steps.specs.Writes.{through, failed}
 use Rattle.rules.specs.Files.{last_slot, free_count}
 use Rattle.rules.specs.Calls.{Sound, Outcome, kept, slots_least, count_fits, read_by, redeemable, redeem_verdict, Seals, Ready, Untouched, Redeeming, declined, spent, shut, strange, full, cut, opened}
-use Rattle.redeeming.specs.Puncturing.{Lengthwise, Given, Puncturing}
-use Rattle.redeeming.proofs.Files.{sound_chain}
+use Rattle.puncture.specs.Puncturing.{Lengthwise, Given, Puncturing}
+use Rattle.puncture.proofs.Files.{sound_chain}
 use Rattle.redeeming.specs.Steps.{roomy, Entering, enters, short, unfit, Known, Surveying, tells, halted, Met, Derived, Unsealing, no_plain, no_record, a_record, Spotted}
 
 err_ok : {A B : Type 0} (a : A) (b : B) → ◌≡◌ {A = Result A B} (Err b) (Ok a) → ⊥
@@ -97,7 +97,6 @@ module _ {k : Kit} {d : ℕ} {s : Slots} {on : Bool} {ticket : List ℕ} {room c
       chain = z.hit.chain;
       finds = z.finds;
       covers = subst (Covers d x.node) (sym en) z.hit.covers;
-      valued = w.valued;
       long = long;
       kept = w.beside;
       wide = z.wide;

@@ -19,8 +19,6 @@ ghost use Rattle.rules.specs.Tickets.{name_in, number_in, heading_in, sealed_in}
 ghost use Rattle.rules.specs.Calls.{Sound, same_bytes, redeemable, Redeeming, kept};
 ghost use Rattle.redeeming.specs.Steps.{roomy, ticket_fits, Entering, passing, Surveying, Met, Derived, Unsealing, Spotted};
 
-mod puncturing;
-
 use chain::{Found, Survey, read_marking};
 use device::{ReadSlots, WriteSlots};
 use fault::Halt;
@@ -28,7 +26,7 @@ use generator::{Generator, descend_keeping};
 use layout::Head;
 use marks::room;
 use octets::{clear, get_u32, same_bytes};
-use puncturing::puncture;
+use puncture::puncture;
 use refusal::Refusal;
 use rules::{HEADING, NAME, slot_count};
 use scratch::Scratch;

@@ -26,7 +26,14 @@ pub(super) fn make<D: WriteSlots, G: Generator, S: Sealer>(
     ensures did { MakeWithin (kit_of (G.Generator.expansion generator.now) (G.Generator.code generator.now) (S.Sealer.sealing sealer.now) (S.Sealer.overhead sealer.now) (S.Sealer.number sealer.now)) (D.ReadSlots.slots device.old) (D.ReadSlots.powered device.old) root.now name.now result (D.ReadSlots.slots device.new) (D.ReadSlots.powered device.new) }
     ensures clean { Clean scratch.new }
 {
-    let made = make_on(device, generator, sealer, root, name, &mut scratch.slot);
+    let made = make_on(
+        device,
+        root,
+        name,
+        generator.number(),
+        sealer.number(),
+        &mut scratch.slot,
+    );
     scratch.wipe();
     made.map_err(|halt| halt.during(Call::Make))?;
     Ok(())
@@ -43,7 +50,13 @@ pub(super) fn reopen<D: WriteSlots, G: Generator, S: Sealer>(
     ensures marks { marks.new ≡ zeros (length marks.old) }
     ensures clean { Clean scratch.new }
 {
-    let reopened = reopen_on(device, generator, sealer, marks, &mut scratch.slot);
+    let reopened = reopen_on(
+        device,
+        generator.number(),
+        sealer.number(),
+        marks,
+        &mut scratch.slot,
+    );
     scratch.wipe();
     reopened.map_err(|halt| halt.during(Call::Reopen))?;
     Ok(())

@@ -1,6 +1,6 @@
 use Rattle.std.proofs.Common.{◌≡◌, ℕ, ◌+◌, ◌-◌, ◌*◌, take, drop, ap, ◌∙◌, arith}
-use Rattle.redeeming.proofs.Values.{valued_laid}
-use Rattle.redeeming.proofs.puncturing.lay_record.Goals as goal
+use Rattle.puncture.proofs.Values.{valued_laid}
+use Rattle.puncture.proofs.lay_record.Goals as goal
 
 pub returns : goal.returns
 returns c =

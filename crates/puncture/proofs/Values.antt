@@ -21,8 +21,8 @@ use Rattle.tree.proofs.Flanks.{length_siblings}
 use Rattle.tree.proofs.Keys.{sibling_lies}
 use Rattle.rules.specs.Kits.{value_length}
 use Rattle.rules.specs.Files.{links_in, relinked}
-use Rattle.redeeming.specs.Laying.{backward, value_at, last_links, links_for}
-use Rattle.redeeming.specs.Puncturing.{Lengthwise}
+use Rattle.puncture.specs.Laying.{backward, value_at, last_links, links_for}
+use Rattle.puncture.specs.Puncturing.{Lengthwise}
 
 -- a record that is laid out without a value, and then the value
 pub valued_laid : (x : NodeFields) (b v w : List ℕ) → b ≡ encode_node x (zeros 32) → w ≡ v → put_mid 32 32 b w ≡ encode_node x v

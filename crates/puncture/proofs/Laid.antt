@@ -11,8 +11,8 @@ use Rattle.steps.specs.OneStep.{Write, write_of, Stepped}
 use Rattle.steps.specs.Writes.{Ran}
 use Rattle.rules.specs.Files.{entry, new_writes}
 use Rattle.steps.proofs.Plans.{ran_none, ran_next, ran_cut, ran_as}
-use Rattle.redeeming.specs.Laying.{open_slots, value_at, last_links, links_for, Able, Laid, all, cut}
-use Rattle.redeeming.proofs.FreeSlots.{First, first_is, none_left, left_over}
+use Rattle.puncture.specs.Laying.{open_slots, value_at, last_links, links_for, Able, Laid, all, cut}
+use Rattle.puncture.proofs.Open.{First, first_is, none_left, left_over}
 
 -- of m nodes the last `m - left` are written
 pub record Going (s : Slots) (nodes : List Node) (row marks : List ℕ) (count last left from next : ℕ) (t : Slots) (on : Bool) : Type 0 where

@@ -7,7 +7,7 @@ use Rattle.tree.specs.Cover.{In, Distinct}
 use Rattle.marks.specs.Rows.{room_of, is_marked, with_mark, MarkLaws, listed, unmarked, first_of}
 use Rattle.chain.specs.Reading.{Link, slots_of}
 use Rattle.chain.specs.Listing.{marked_all}
-use Rattle.redeeming.specs.Laying.{backward}
+use Rattle.puncture.specs.Laying.{backward}
 
 -- ---- the first
 pub record First (row : List ℕ) (i n f : ℕ) : Type 0 where

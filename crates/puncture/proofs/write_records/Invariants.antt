@@ -1,6 +1,6 @@
-use Rattle.redeeming.specs.Laying.{Able}
-use Rattle.redeeming.proofs.Laid.{Going}
-use Rattle.redeeming.proofs.puncturing.write_records.Given as goal
+use Rattle.puncture.specs.Laying.{Able}
+use Rattle.puncture.proofs.Laid.{Going}
+use Rattle.puncture.proofs.write_records.Given as goal
 use Rattle.std.proofs.Common.{◌≤◌, length}
 
 abbrev pub invariant-loop-left : goal.invariant-loop-left

@@ -1,10 +1,11 @@
 -- A puncture put together from its writes.
 use Rattle.std.proofs.Common.{◌≡◌, ℕ, ◌-◌, ◌*◌, ◌<◌, ◌≤◌, Bool, true, false, ◌⊎◌, List, [], ◌∷◌, ◌++◌, length, get_or, Ok, Err, Result, sym, refl, ap, ◌∙◌, subst, inl, inr, append_assoc, arith}
-use Rattle.std.proofs.lemmas.List.{length-replicate, get_or-set_other}
+use Rattle.std.proofs.lemmas.List.{length-drop, length-replicate, get_or-set_other}
 use Rattle.octets.specs.Buffers.{zeros}
 use Rattle.device.specs.Effects.{Slot, Slots, blank}
 use Rattle.fault.specs.declared.Halt.{Halt}
 use Rattle.fault.specs.declared.Step.TheVariants.{NewRecord, Join, Erasure}
+use Rattle.layout.specs.Records.{value_of}
 use Rattle.tree.specs.declared.Node.{Node}
 use Rattle.tree.specs.Nodes.{root_node, most_levels, Above}
 use Rattle.tree.specs.Cover.{In}
@@ -23,11 +24,11 @@ use Rattle.steps.specs.Writes.{stood, Ran, through, failed}
 use Rattle.rules.specs.Files.{relinked, entry, last_slot, links_in, record_of, new_writes, join_write, erase_write, redeem_writes, FreeSlots, free_count}
 use Rattle.rules.specs.Calls.{Sound, new_links}
 use Rattle.steps.proofs.Plans.{stood_append, length_stood, ran_next, ran_cut, ran_as}
-use Rattle.redeeming.specs.Laying.{open_slots, backward, value_at, links_for, Able, Laid, all, cut}
-use Rattle.redeeming.specs.Puncturing.{Given, Puncturing}
-use Rattle.redeeming.proofs.FreeSlots.{Bounded, within, rises, backward_apart, backward_in, length_backward, open_count, chain_marked}
-use Rattle.redeeming.proofs.Files.{Standing, Chained, slot_of, sound_chain}
-use Rattle.redeeming.proofs.Values.{follow_long, value_at_is, links_are}
+use Rattle.puncture.specs.Laying.{open_slots, backward, value_at, links_for, Able, Laid, all, cut}
+use Rattle.puncture.specs.Puncturing.{Given, Puncturing}
+use Rattle.puncture.proofs.Open.{Bounded, within, rises, backward_apart, backward_in, length_backward, open_count, chain_marked}
+use Rattle.puncture.proofs.Files.{Standing, Chained, slot_of, sound_chain}
+use Rattle.puncture.proofs.Values.{follow_long, value_at_is, links_are}
 
 both : {b : Bool} → b ≡ true → b ≡ false → ⊥
 both p q = let z : true ≡ false = sym p ∙ q in let y : ◌≡◌ {A = ℕ} 0 1 = cc in omega arith
@@ -122,7 +123,7 @@ module _ (s : Slots) (front : List Link) (x : Link) (back new : List Link) (last
 
 -- ---- from what is given
 module _ {k : Kit} {d : ℕ} {s : Slots} {on : Bool} {count : ℕ} {found : Found} {n : ℕ} {row marks : List ℕ} {f : Sound} {front : List Link} {x : Link} {back : List Link}
-    (g : Given k d s on count found n row marks f front x back) where
+    (g : Given k d s on count found n row marks f front x back) (sized : (j : ℕ) → j < length s → length (get_or s j []) ≡ 64) where
   chain_stands : Chained d s 0 f.1
   chain_stands = sound_chain d k.generator k.sealer s f.0 f.1 g.file
 
@@ -185,6 +186,12 @@ module _ {k : Kit} {d : ℕ} {s : Slots} {on : Bool} {count : ℕ} {found : Foun
   siblings_many : length (siblings_from d x.node n) ≡ m
   siblings_many = length_siblings x.node.depth m x.node.first n
 
+  value_long : length x.value ≡ value_length
+  unfolding value_of
+  value_long =
+      let e : x.value ≡ value_of (get_or s x.slot []) = ap (λ (z : Link). z.value) stands.link in
+      ap length e ∙ length-drop 32 (get_or s x.slot []) ∙ ap (λ (z : ℕ). z - 32) (sized x.slot stands.within)
+
   module _ (nodes : List Node) (is : nodes ≡ siblings_from d found.node n) where
     nodes_are : nodes ≡ siblings_from d x.node n
     nodes_are = is ∙ ap (λ (y : Node). siblings_from d y n) node_same
@@ -201,7 +208,7 @@ module _ {k : Kit} {d : ℕ} {s : Slots} {on : Bool} {count : ℕ} {found : Foun
         let sib = siblings_from d x.node n in
         let v : (j : ℕ) → j < length sib → value_at row j ≡ h (get_or sib j root_node) = λ j l.
         ap (λ (w : List ℕ). value_at w j) g.kept
-        ∙ value_at_is h sib (zeros (most_levels * value_length - length (sibling_values k.expansion d x.node x.value n))) (λ y. follow_long k.expansion g.long x.value (way (y.depth - x.node.depth) (d - y.depth) y.first) g.valued) j l in
+        ∙ value_at_is h sib (zeros (most_levels * value_length - length (sibling_values k.expansion d x.node x.value n))) (λ y. follow_long k.expansion g.long x.value (way (y.depth - x.node.depth) (d - y.depth) y.first) value_long) j l in
         ap (λ (l : List Node). links_for (open_slots marks count) l row) nodes_are
         ∙ links_are (open_slots marks count) sib row h v
         ∙ ap (λ (j : ℕ). links_in (backward (open_slots marks count) j) (valued h sib)) siblings_many

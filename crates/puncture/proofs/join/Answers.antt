@@ -3,8 +3,8 @@ use Rattle.fault.specs.declared.Step.TheVariants.{Join}
 use Rattle.device.specs.Effects.{Slot}
 use Rattle.steps.specs.OneStep.{write_of, Stepped}
 use Rattle.rules.specs.Files.{relinked}
-use Rattle.redeeming.proofs.Values.{relinks}
-use Rattle.redeeming.proofs.puncturing.join.Goals as goal
+use Rattle.puncture.proofs.Values.{relinks}
+use Rattle.puncture.proofs.join.Goals as goal
 
 pub returns : goal.returns
 returns g c = λ h o.

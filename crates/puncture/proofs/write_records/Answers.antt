@@ -1,8 +1,8 @@
 use Rattle.std.proofs.Common.{◌<◌, sym, ◌∙◌, arith}
 use Rattle.std.proofs.lemmas.Result.{err_from_is_err_and}
-use Rattle.redeeming.proofs.FreeSlots.{first_small}
-use Rattle.redeeming.proofs.Laid.{ended, some_left, fails, again}
-use Rattle.redeeming.proofs.puncturing.write_records.Goals as goal
+use Rattle.puncture.proofs.Open.{first_small}
+use Rattle.puncture.proofs.Laid.{ended, some_left, fails, again}
+use Rattle.puncture.proofs.write_records.Goals as goal
 
 pub returns-in_default : goal.returns-in_default
 returns-in_default g c = λ a. absurd (some_left (c.loop-left.invariant.1 a) _ a c.loop-left-test.true (sym c.first_unmarked.ensures ∙ c.in_default.is))

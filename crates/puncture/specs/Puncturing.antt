@@ -28,7 +28,6 @@ pub record Given (k : Kit) (d : ℕ) (s : Slots) (on : Bool) (count : ℕ) (foun
   pub chain : f.1 ≡ front ++ (x ∷ back)
   pub finds : found ≡ between (last_slot 0 front) x back
   pub covers : Covers d x.node n
-  pub valued : length x.value ≡ value_length
   pub long : Lengthwise k.expansion
   pub kept : row ≡ filled (sibling_values k.expansion d x.node x.value n) (most_levels * value_length)
   pub wide : room_of count ≤ length marks

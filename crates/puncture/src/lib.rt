@@ -1,6 +1,8 @@
 //! The writes of a redemption: the siblings on the way down to a number take the place of the record that covered it.
 //!
 //! New records go to free slots first; the join, one write, brings them in and takes the old record off; then its slot is zeroed.
+#![tactic(auto)]
+
 ghost use Rattle.std.specs.Prelude.{◌≡◌, ℕ, ◌^◌, ◌<◌, ◌≤◌, true, List, [], length, get_or, replicate, slice_index_or};
 ghost use Rattle.tree.specs.Nodes.{tree_levels, most_levels, root_node};
 ghost use Rattle.layout.specs.Records.{encode_node};
@@ -10,8 +12,8 @@ ghost use Rattle.rules.specs.Kits.{Kit};
 ghost use Rattle.steps.specs.OneStep.{write_of, Stepped};
 ghost use Rattle.rules.specs.Files.{relinked};
 ghost use Rattle.rules.specs.Calls.{Sound};
-ghost use Rattle.redeeming.specs.Laying.{open_slots, value_at, links_for, Able, Laid};
-ghost use Rattle.redeeming.specs.Puncturing.{Given, Puncturing};
+ghost use Rattle.puncture.specs.Laying.{open_slots, value_at, links_for, Able, Laid};
+ghost use Rattle.puncture.specs.Puncturing.{Given, Puncturing};
 
 use chain::Found;
 use device::{ReadSlots, WriteSlots};
@@ -82,7 +84,7 @@ fn join<D: WriteSlots>(d: &mut D, before: u16, first: u16, slot: &mut [u8; 64]) 
 /// Punctures the tree at `n`, in the place of the record found, which covers it: the records of the siblings, from the last
 /// to the first, to the lowest slots without a mark; then the join; then zeros over the record found. `row` holds the
 /// siblings' values, and `slot` is lent for key material, zero afterwards.
-pub(super) fn puncture<D: WriteSlots>(
+pub fn puncture<D: WriteSlots>(
     d: &mut D,
     count: u16,
     found: &Found,
