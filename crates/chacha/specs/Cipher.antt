@@ -1,6 +1,7 @@
 -- The block function of ChaCha20, as RFC 8439 gives it in sections 2.1 to 2.3. A state is a list of sixteen words.
 use Rattle.std.specs.Prelude.{ℕ, zero, suc, ◌+◌, ◌-◌, ◌*◌, ◌/◌, ◌%◌, ◌^◌, List, [], ◌∷◌, ◌++◌, set, codes, bit_or, bit_xor, slice_index, slice_set}
 use Rattle.std.specs.List.{flat_map}
+use Rattle.std.specs.Simd.Lanes.{zip2}
 
 -- x <<< k, on words of 32 bits
 unfoldable pub rotl : ℕ → ℕ → ℕ
@@ -44,9 +45,7 @@ start_of key counter nonce = words_of (codes "expand 32-byte k") 0 4 ++ words_of
 
 -- two states added, word by word
 unfoldable pub added : List ℕ → List ℕ → List ℕ
-added [] ys = []
-added (x ∷ xs) [] = []
-added (x ∷ xs) (y ∷ ys) = ((x + y) % 2 ^ 32) ∷ added xs ys
+added = zip2 (λ x y. (x + y) % 2 ^ 32)
 
 -- a word's four bytes, little-endian
 unfoldable pub serialized : ℕ → List ℕ

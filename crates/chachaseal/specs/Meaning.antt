@@ -5,14 +5,26 @@ use Rattle.chacha.specs.Cipher.{block_of}
 use Rattle.hmac.specs.Mac.{hmac}
 use Rattle.sealing.specs.Covering.{sealing_of}
 
+-- the number by which trees name this sealer
+abbrev pub sealer_number : ℕ
+sealer_number = 1
+
+-- the bytes of a keystream block
+abbrev pub block_size : ℕ
+block_size = 64
+
+-- the bytes of a tag
+abbrev pub tag_size : ℕ
+tag_size = 16
+
 -- the keystream: its block i is the ChaCha20 block at the counter i + 1, a word of 32 bits, where the nonce is zero
 unfoldable pub stream_block : List ℕ → ℕ → List ℕ
 stream_block key i = block_of key ((i + 1) % 2 ^ 32) (zeros 12)
 
 -- the tag: the first sixteen bytes of the HMAC of the heading and the covered plain
 unfoldable pub tag_of : List ℕ → List ℕ → List ℕ → List ℕ
-tag_of key heading bytes = take 16 (hmac key (heading ++ bytes))
+tag_of key heading bytes = take tag_size (hmac key (heading ++ bytes))
 
 -- the sealing of a plain: the plain under the keystream, then the tag
 abbrev pub sealed_bytes : List ℕ → List ℕ → List ℕ → List ℕ
-sealed_bytes key heading plain = sealing_of (stream_block key) 64 (tag_of key heading) plain
+sealed_bytes key heading plain = sealing_of (stream_block key) block_size (tag_of key heading) plain

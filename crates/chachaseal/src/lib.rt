@@ -3,14 +3,14 @@
 
 ghost use Rattle.std.specs.Prelude.{◌≡◌, take};
 ghost use Rattle.octets.specs.Buffers.{filled};
-ghost use Rattle.chachaseal.specs.Meaning.{stream_block, tag_of, sealed_bytes};
+ghost use Rattle.chachaseal.specs.Meaning.{sealer_number, block_size, tag_size, stream_block, tag_of, sealed_bytes};
 ghost use Rattle.chachaseal.specs.Lengths.{stream_long, tag_long};
 ghost use Rattle.std.proofs.Common.{rules};
 ghost use Rattle.sealing.proofs.Covers.{sealing_long};
 ghost use Rattle.sealing.proofs.Covers;
 
 use hmac::Hmac;
-use octets::{Wiped, clear};
+use octets::Wiped;
 use refusal::Refusal;
 use sealer::Sealer;
 use sealing::Scheme;
@@ -30,19 +30,19 @@ pub struct ChaChaSealer;
 
 // Keeps the bytes of a tag at the start of a row, and puts zeros after them.
 fn keep_tag(out: &mut [u8; 32])
-    ensures { out.new ≡ filled (take 16 out.old) 32 }
+    ensures { out.new ≡ filled (take tag_size out.old) 32 }
 {
-    clear(&mut out[TAG_SIZE..]);
+    out[TAG_SIZE..].fill(0);
 }
 
 impl Scheme for ChaChaSealer {
-    ghost block = { λ _ key i. stream_block key i };
+    ghost block = { λ _. stream_block };
 
-    ghost size = { λ _. 64 };
+    ghost size = { λ _. block_size };
 
-    ghost tag = { λ _ key heading bytes. tag_of key heading bytes };
+    ghost tag = { λ _. tag_of };
 
-    ghost extra = { λ _. 16 };
+    ghost extra = { λ _. tag_size };
 
     ghost some = { Prim.search rules };
 
@@ -50,9 +50,9 @@ impl Scheme for ChaChaSealer {
 
     ghost limited = { Prim.search rules };
 
-    ghost whole = { λ s key index. stream_long key index };
+    ghost whole = { λ _. stream_long };
 
-    ghost tagged = { λ s key heading bytes. tag_long key heading bytes };
+    ghost tagged = { λ _. tag_long };
 
     fn size(&self) -> usize {
         BLOCK_SIZE
@@ -84,20 +84,21 @@ impl Scheme for ChaChaSealer {
     }
 }
 
+// Alike in both sealers, and yet twice: a rule of the project gives each of them its own guard on the lent pad.
 impl Sealer for ChaChaSealer {
-    ghost sealing = { λ _ key heading plain. sealed_bytes key heading plain };
+    ghost sealing = { λ _. sealed_bytes };
 
-    ghost overhead = { λ _. 16 };
+    ghost overhead = { λ _. tag_size };
 
-    ghost number = { λ _. 1 };
+    ghost number = { λ _. sealer_number };
 
     ghost one_byte = { Prim.search rules };
 
     ghost limited = { Prim.search rules };
 
-    ghost long = { λ s key heading plain k h p. sealing_long (stream_block key) 64 (tag_of key heading) 16 (tag_long key heading) plain };
+    ghost long = { λ _ key heading plain _ _ _. sealing_long (stream_block key) block_size (tag_of key heading) tag_size (tag_long key heading) plain };
 
-    ghost apart = { λ s key heading plain other k h p q same. Covers.apart (stream_block key) 64 (tag_of key heading) 16 (tag_long key heading) plain other same };
+    ghost apart = { λ _ key heading plain other _ _ _ _ same. Covers.apart (stream_block key) block_size (tag_of key heading) tag_size (tag_long key heading) plain other same };
 
     fn number(&self) -> u8 {
         NUMBER

@@ -1,9 +1,10 @@
 -- A walk that succeeds, as a chain that stands in the slots; and what holds of every chain.
-use Rattle.std.proofs.Common.{◌≡◌, ℕ, zero, suc, ◌+◌, ◌-◌, ◌^◌, ◌<◌, ◌≤◌, Bool, true, false, cond, ◌&&◌, eqb, ltb, leb, ◌≢◌, List, [], ◌∷◌, length, get_or, is_some, Some, None, Option, sym, refl, ap, ◌∙◌, subst, inl, inr, ⊎_elim, arith}
+use Rattle.std.proofs.Common.{◌≡◌, ℕ, zero, suc, ◌+◌, ◌-◌, ◌^◌, ◌<◌, ◌≤◌, Bool, true, false, cond, ◌&&◌, eqb, ltb, leb, ◌≢◌, List, [], ◌∷◌, ◌++◌, length, get_or, is_some, Some, None, Option, sym, refl, ap, ◌∙◌, subst, inl, inr, ⊎_elim, arith}
 use Rattle.std.proofs.lemmas.Bool.{cases_Bool, and_parts, and_from, leb-true}
+use Rattle.octets.specs.Buffers.{is_blank}
 use Rattle.device.specs.Effects.{Slots}
 use Rattle.layout.specs.declared.NodeFields.{NodeFields}
-use Rattle.layout.specs.Records.{part, all_zero, is_record, node_fields, node_of}
+use Rattle.layout.specs.Records.{part, is_record, node_fields, node_of}
 use Rattle.tree.specs.declared.Node.{Node}
 use Rattle.tree.specs.Nodes.{IsNode}
 use Rattle.tree.specs.Cover.{In, Ordered, Distinct}
@@ -11,6 +12,12 @@ use Rattle.chain.specs.Reading.{Link, Walk, Walk.broken, Walk.walked, consed, no
 use Rattle.chain.specs.Sound.{nodes_of, Chained}
 use Rattle.chain.proofs.Order.{end_within, end_after, tested_node}
 use Rattle.chain.proofs.Walks.{walk_end, walk_on}
+
+-- a slot of the first links is one of all
+pub slot_left : (j : ℕ) (xs ys : List Link) → In j (slots_of xs) → In j (slots_of (xs ++ ys))
+slot_left j [] ys m = absurd m
+slot_left j (x ∷ xs) ys (inl q) = inl q
+slot_left j (x ∷ xs) ys (inr m) = inr (slot_left j xs ys m)
 
 -- what a record's test lets through is a node
 some_record : (b : Bool) (x : NodeFields) → is_some (cond {A = Option NodeFields} b (Some x) None) ≡ true → b ≡ true
@@ -22,7 +29,7 @@ unfolding node_of
 some_node d bs e =
     let t = some_record (is_record d bs) (node_fields bs) e in
     let q = and_parts (eqb (get_or bs 0 0) 2) _ t in
-    let r = and_parts (all_zero (part 6 26 bs)) _ q.1 in
+    let r = and_parts (is_blank (part 6 26 bs)) _ q.1 in
     tested_node d (node_in bs).depth (node_in bs).first r.1
 
 record Split (x : Link) (w : Walk) (xs : List Link) : Type 0 where
@@ -31,18 +38,18 @@ record Split (x : Link) (w : Walk) (xs : List Link) : Type 0 where
   all : x ∷ rest ≡ xs
 
 split : (x : Link) (w : Walk) (xs : List Link) → consed x w ≡ walked xs → Split x w xs
-split x (broken i) xs e = let z : ◌≡◌ {A = ℕ} 0 1 = cc in absurd (omega arith)
+split x (broken i) xs e = absurd (cc)
 split x (walked ys) xs e = record { rest = ys; is = refl; all = cc }
 
 none_left : (xs : List Link) → walked [] ≡ walked xs → xs ≡ []
 none_left [] e = refl
-none_left (x ∷ xs) e = let z : ◌≡◌ {A = ℕ} 0 1 = cc in absurd (omega arith)
+none_left (x ∷ xs) e = absurd (cc)
 
 module _ (d : ℕ) (s : Slots) where
   pub to_chained : (k from : ℕ) (b : Option Node) (last i : ℕ) (xs : List Link) → walk d k s from b last i ≡ walked xs → Chained d s from b i xs
   unfolding walk
   to_chained k from b last zero xs e = subst (Chained d s from b zero) (sym (none_left xs e)) refl
-  to_chained zero from b last (suc i) xs e = let z : ◌≡◌ {A = ℕ} 0 1 = cc in absurd (omega arith)
+  to_chained zero from b last (suc i) xs e = absurd (cc)
   to_chained (suc k) from b last (suc i) xs e = ⊎_elim
       (λ (t : ltb (suc i) (length s) ≡ true). ⊎_elim
       (λ (u : (is_some (node_of d (get_or s (suc i) [])) && may_follow d from b (node_in (get_or s (suc i) []))) ≡ true).
@@ -52,11 +59,11 @@ module _ (d : ℕ) (s : Slots) where
       (omega arith, leb-true (suc (suc i)) (length s) t, refl, v.0, v.1, to_chained k _ _ (suc i) (node_fields (get_or s (suc i) [])).next p.rest p.is))
       (λ (u : (is_some (node_of d (get_or s (suc i) [])) && may_follow d from b (node_in (get_or s (suc i) []))) ≡ false).
       let f : broken (suc i) ≡ walked xs = rw (t, u) at e in
-      let z : ◌≡◌ {A = ℕ} 0 1 = cc in absurd (omega arith))
+      absurd (cc))
       (cases_Bool (is_some (node_of d (get_or s (suc i) [])) && may_follow d from b (node_in (get_or s (suc i) [])))))
       (λ (t : ltb (suc i) (length s) ≡ false).
       let f : broken last ≡ walked xs = rw t at e in
-      let z : ◌≡◌ {A = ℕ} 0 1 = cc in absurd (omega arith))
+      absurd (cc))
       (cases_Bool (ltb (suc i) (length s)))
 
   -- a record begins where its predecessor ends, or later

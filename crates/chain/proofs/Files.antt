@@ -12,20 +12,20 @@ use Rattle.chain.proofs.Lowness.{lowest_up, lowest_covered, lowest_bare}
 
 -- ---- which way the tests went
 cond_sound : (b : Bool) (m : ℕ) (k h : Head) (ys xs : List Link) → cond b (uncovered m) (sound k ys) ≡ sound h xs → (b ≡ false) × (k ≡ h) × (ys ≡ xs)
-cond_sound true m k h ys xs e = let z : ◌≡◌ {A = ℕ} 0 1 = cc in absurd (omega arith)
+cond_sound true m k h ys xs e = absurd (cc)
 cond_sound false m k h ys xs e = (refl, cc, cc)
 
 cond_bare : (b : Bool) (m n : ℕ) (k : Head) (ys : List Link) → cond b (uncovered m) (sound k ys) ≡ uncovered n → (b ≡ true) × (m ≡ n)
 cond_bare true m n k ys e = (refl, cc)
-cond_bare false m n k ys e = let z : ◌≡◌ {A = ℕ} 0 1 = cc in absurd (omega arith)
+cond_bare false m n k ys e = absurd (cc)
 
 head_sound : (b : Bool) (v : File) (h : Head) (xs : List Link) → cond b v bad_head ≡ sound h xs → (b ≡ true) × (v ≡ sound h xs)
 head_sound true v h xs e = (refl, e)
-head_sound false v h xs e = let z : ◌≡◌ {A = ℕ} 0 1 = cc in absurd (omega arith)
+head_sound false v h xs e = absurd (cc)
 
 head_bare : (b : Bool) (v : File) (n : ℕ) → cond b v bad_head ≡ uncovered n → v ≡ uncovered n
 head_bare true v n e = e
-head_bare false v n e = let z : ◌≡◌ {A = ℕ} 0 1 = cc in absurd (omega arith)
+head_bare false v n e = absurd (cc)
 
 record Judged (d : ℕ) (k h : Head) (w : Walk) (xs : List Link) : Type 0 where
   same : k ≡ h
@@ -33,7 +33,7 @@ record Judged (d : ℕ) (k h : Head) (w : Walk) (xs : List Link) : Type 0 where
   full : 2 ^ d ≤ lowest_from d k.issued xs
 
 judged_sound : (d : ℕ) (k h : Head) (w : Walk) (xs : List Link) → judged d k w ≡ sound h xs → Judged d k h w xs
-judged_sound d k h (broken i) xs e = let z : ◌≡◌ {A = ℕ} 0 1 = cc in absurd (omega arith)
+judged_sound d k h (broken i) xs e = absurd (cc)
 judged_sound d k h (walked ys) xs e =
     let p = cond_sound (ltb (lowest_from d k.issued ys) (2 ^ d)) (lowest_from d k.issued ys) k h ys xs e in
     record {
@@ -49,7 +49,7 @@ record Lacks (d : ℕ) (k : Head) (w : Walk) (n : ℕ) : Type 0 where
   number : lowest_from d k.issued links < 2 ^ d
 
 judged_bare : (d : ℕ) (k : Head) (w : Walk) (n : ℕ) → judged d k w ≡ uncovered n → Lacks d k w n
-judged_bare d k (broken i) n e = let z : ◌≡◌ {A = ℕ} 0 1 = cc in absurd (omega arith)
+judged_bare d k (broken i) n e = absurd (cc)
 judged_bare d k (walked ys) n e =
     let p = cond_bare (ltb (lowest_from d k.issued ys) (2 ^ d)) (lowest_from d k.issued ys) n k ys e in
     record { links = ys; walks = refl; lowest = p.1; number = ltb-true _ _ p.0 }
@@ -73,7 +73,7 @@ module _ (d g w : ℕ) (s : Slots) where
       }
 
   from_head : (o : Option Head) (h : Head) (xs : List Link) → head_of d (get_or s 0 []) ≡ o → headed d g w s o ≡ sound h xs → SoundFile d g w s h xs
-  from_head None h xs q e = let z : ◌≡◌ {A = ℕ} 0 1 = cc in absurd (omega arith)
+  from_head None h xs q e = absurd (cc)
   from_head (Some k) h xs q e =
       let p = head_sound (eqb k.generator g && eqb k.sealer w) (judged d k (walk d (suc (2 ^ d)) s 0 None 0 k.first)) h xs e in
       let t = and_parts (eqb k.generator g) _ p.0 in
@@ -105,7 +105,7 @@ module _ (d g w : ℕ) (s : Slots) where
 
   -- ---- a file that lacks a number
   bare_head : (o : Option Head) (n : ℕ) → head_of d (get_or s 0 []) ≡ o → headed d g w s o ≡ uncovered n → Bare d s n
-  bare_head None n q e = let z : ◌≡◌ {A = ℕ} 0 1 = cc in absurd (omega arith)
+  bare_head None n q e = absurd (cc)
   bare_head (Some k) n q e =
       let p = head_bare (eqb k.generator g && eqb k.sealer w) (judged d k (walk d (suc (2 ^ d)) s 0 None 0 k.first)) n e in
       let j = judged_bare d k (walk d (suc (2 ^ d)) s 0 None 0 k.first) n p in

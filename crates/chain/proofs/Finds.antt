@@ -16,7 +16,7 @@ covers_under : (d n : ℕ) (x : Node) → Covers d x n → is_under d x n ≡ tr
 covers_under d n x c = and_from _ _ (le-leb _ _ c.0) (lt-ltb _ _ c.1)
 
 pub found_at : (d n b : ℕ) (xs : List Link) (f : Found) → find_in d n b xs ≡ Some f → FoundAt d n b xs f
-found_at d n b [] f e = let z : ◌≡◌ {A = ℕ} 0 1 = cc in absurd (omega arith)
+found_at d n b [] f e = absurd (cc)
 found_at d n b (x ∷ xs) f e = ⊎_elim
     (λ (t : is_under d x.node n ≡ true).
     let g : Some (between b x xs) ≡ Some f = rw t at e in

@@ -71,7 +71,7 @@ free_are m count from xs i r f =
     )
 
 -- ---- how many there are
-same_unmarked : (n from : ℕ) (row other : List ℕ) → ((k : ℕ) → from ≤ k → is_marked row k ≡ is_marked other k) → unmarked row from n ≡ unmarked other from n
+pub same_unmarked : (n from : ℕ) (row other : List ℕ) → ((k : ℕ) → from ≤ k → is_marked row k ≡ is_marked other k) → unmarked row from n ≡ unmarked other from n
 same_unmarked zero from row other f = refl
 same_unmarked (suc n) from row other f =
     let e : is_marked row from ≡ is_marked other from = f from (omega arith) in
@@ -79,12 +79,12 @@ same_unmarked (suc n) from row other f =
     ap (λ (b : Bool). listed b from (unmarked row (suc from) n)) e ∙ ap (listed (is_marked other from) from) r
 
 -- two lists of which one is longer by one stay so with one more slot before them
-one_less : (b : Bool) (from : ℕ) (xs ys : List ℕ) → length xs + 1 ≡ length ys → length (listed b from xs) + 1 ≡ length (listed b from ys)
+pub one_less : (b : Bool) (from : ℕ) (xs ys : List ℕ) → length xs + 1 ≡ length ys → length (listed b from xs) + 1 ≡ length (listed b from ys)
 one_less true from xs ys e = e
 one_less false from xs ys e = omega arith
 
 -- a slot that is marked is one free slot less
-less_unmarked : (n from count i : ℕ) (row : List ℕ) → room_of count ≤ length row → i < count → from ≤ i → i < from + n → is_marked row i ≡ false →
+pub less_unmarked : (n from count i : ℕ) (row : List ℕ) → room_of count ≤ length row → i < count → from ≤ i → i < from + n → is_marked row i ≡ false →
     length (unmarked (with_mark row i) from n) + 1 ≡ length (unmarked row from n)
 less_unmarked zero from count i row r c l u e = absurd (omega arith)
 less_unmarked (suc n) from count i row r c l u e = ⊎_elim
@@ -100,11 +100,11 @@ less_unmarked (suc n) from count i row r c l u e = ⊎_elim
     rw o (one_less (is_marked row from) from (unmarked (with_mark row i) (suc from) n) (unmarked row (suc from) n) h))
     (cases_eq i from)
 
-all_unmarked : (n from m : ℕ) → length (unmarked (zeros m) from n) ≡ n
+pub all_unmarked : (n from m : ℕ) → length (unmarked (zeros m) from n) ≡ n
 all_unmarked zero from m = refl
 all_unmarked (suc n) from m = let f = mark_laws.none m from in rw f (ap suc (all_unmarked n (suc from) m))
 
-sum_unmarked : (count : ℕ) (xs : List Link) (row : List ℕ) → room_of count ≤ length row → ((j : ℕ) → In j (slots_of xs) → (0 < j) × (j < count)) → Distinct (slots_of xs) →
+pub sum_unmarked : (count : ℕ) (xs : List Link) (row : List ℕ) → room_of count ≤ length row → ((j : ℕ) → In j (slots_of xs) → (0 < j) × (j < count)) → Distinct (slots_of xs) →
     ((j : ℕ) → In j (slots_of xs) → is_marked row j ≡ false) → length (unmarked (marked_all row xs) 1 (count - 1)) + length xs ≡ length (unmarked row 1 (count - 1))
 sum_unmarked count [] row r f d e = omega arith
 sum_unmarked count (x ∷ xs) row r f d e =

@@ -144,10 +144,10 @@ renamed from' t' row' e f h g = rw (e, f, h) g
 -- ---- what a read of a record tells
 record_none : (i : ℕ) (o : Option NodeFields) (h : Halt) → Err h ≡ record_named i o → (o ≡ None) × (h ≡ placed BadLink i)
 record_none i None h e = (refl, cc)
-record_none i (Some x) h e = let z : ◌≡◌ {A = ℕ} 0 1 = cc in absurd (omega arith)
+record_none i (Some x) h e = absurd (cc)
 
 record_some : (i : ℕ) (o : Option NodeFields) (f : NodeFields) → Ok f ≡ record_named i o → o ≡ Some f
-record_some i None f e = let z : ◌≡◌ {A = ℕ} 0 1 = cc in absurd (omega arith)
+record_some i None f e = absurd (cc)
 record_some i (Some x) f e = cc
 
 pub record_bad : (d : ℕ) (s : Slots) (on : Bool) (i : ℕ) (h : Halt) → on ≡ true → i < length s → Err h ≡ record_read d s on i →
@@ -156,13 +156,25 @@ record_bad d s on i h p l e =
     let t : ltb i (length s) ≡ true = lt-ltb _ _ l in
     record_none i (node_of d (get_or s i [])) h (rw (t, p) at e)
 
-pub record_good : (d : ℕ) (s : Slots) (on : Bool) (i : ℕ) (f : NodeFields) → on ≡ true → i < length s → Ok f ≡ record_read d s on i → node_of d (get_or s i []) ≡ Some f
+record_good : (d : ℕ) (s : Slots) (on : Bool) (i : ℕ) (f : NodeFields) → on ≡ true → i < length s → Ok f ≡ record_read d s on i → node_of d (get_or s i []) ≡ Some f
 record_good d s on i f p l e =
     let t : ltb i (length s) ≡ true = lt-ltb _ _ l in
     record_some i (node_of d (get_or s i [])) f (rw (t, p) at e)
+
+-- a record that is read where the walk stands
+pub record Good (d : ℕ) (s : Slots) (i : ℕ) (f : NodeFields) : Type 0 where
+  pub here : i < length s
+  pub is : node_of d (get_or s i []) ≡ Some f
+  pub node : IsNode d (node_at f.depth f.first)
+
+pub good : (d : ℕ) (s : Slots) (on : Bool) (i n : ℕ) (f : NodeFields) → n ≡ length s → i < n → on ≡ true → Ok f ≡ record_read d s on i → Good d s i f
+good d s on i n f e l p r =
+    let here : i < length s = subst (λ (k : ℕ). i < k) e l in
+    let is = record_good d s on i f p here r in
+    record { here = here; is = is; node = tested_node d f.depth f.first (laid d (get_or s i []) f is).node }
 
 -- a walk that ends with a refusal gives no chain
 pub no_chain : (d n : ℕ) (t : Tally) (b : ℕ) (w : Walk) (h : Halt) (xs : List Link) (a c : List ℕ) → Err h ≡ tally_of d n t b w → w ≡ walked xs → a ≡ c
 no_chain d n t b w h xs a c e q =
     let f : Err h ≡ tally_of d n t b (walked xs) = e ∙ ap (tally_of d n t b) q in
-    let z : ◌≡◌ {A = ℕ} 0 1 = cc in absurd (omega arith)
+    absurd (cc)

@@ -1,5 +1,7 @@
 -- From the walk to what reading comes to.
 use Rattle.std.proofs.Common.{◌≡◌, ℕ, suc, ◌+◌, ◌^◌, Bool, true, false, cond, ◌&&◌, eqb, ltb, List, [], length, get_or, Some, None, Ok, Err, Option, Result, sym, refl, ap, ◌∙◌, ⊎_elim, arith}
+use Rattle.std.specs.Option.{unwrap_or}
+use Rattle.std.specs.Result.{is_err}
 use Rattle.std.proofs.lemmas.Bool.{cases_Bool}
 use Rattle.refusal.specs.declared.Refusal.TheVariants.{BadHead, Uncovered}
 use Rattle.fault.specs.declared.Halt.{Halt}
@@ -13,12 +15,12 @@ use Rattle.chain.specs.declared.Tally.{Tally}
 use Rattle.chain.specs.Reading.{Link, Walk, Walk.broken, Walk.walked, File, walk, lowest_from, judged, headed, file_of}
 use Rattle.octets.specs.Buffers.{zeros}
 use Rattle.chain.specs.Listing.{find_in, tally_of, none_yet, marked_all}
-use Rattle.chain.specs.Outcome.{Reading, Reading.declined, Reading.read, judged_as, chain_of, reading_of, asked_of, answer_of, marks_of, head_named, head_read}
+use Rattle.chain.specs.Outcome.{Reading, Reading.declined, Reading.read, judged_as, chain_of, reading_of, answer_of, marks_of, head_named, head_read}
 
 -- ---- the walk, then the numbers that are not issued
 pub judge_err : (d n : ℕ) (h : Head) (w : Walk) (f : Halt) → Err f ≡ tally_of d n (none_yet h.issued) 0 w → Err f ≡ answer_of d (Some n) (judged_as (judged d h w))
 judge_err d n h (broken i) f e = cc
-judge_err d n h (walked xs) f e = let z : ◌≡◌ {A = ℕ} 0 1 = cc in absurd (omega arith)
+judge_err d n h (walked xs) f e = absurd (cc)
 
 -- the answer that a tally leads to
 abbrev pub finished : ℕ → Head → Tally → Result Survey Halt
@@ -30,7 +32,7 @@ through d n m true h xs = refl
 through d n m false h xs = refl
 
 pub judge_ok : (d n : ℕ) (h : Head) (w : Walk) (t : Tally) → Ok t ≡ tally_of d n (none_yet h.issued) 0 w → answer_of d (Some n) (judged_as (judged d h w)) ≡ finished d h t
-judge_ok d n h (broken i) t e = let z : ◌≡◌ {A = ℕ} 0 1 = cc in absurd (omega arith)
+judge_ok d n h (broken i) t e = absurd (cc)
 judge_ok d n h (walked xs) t e =
     let k : 0 + length xs ≡ length xs = omega arith in
     let q : t ≡ record { length = length xs; lowest = lowest_from d h.issued xs; found = find_in d n 0 xs } = rw k at (ok_is e) in
@@ -40,16 +42,16 @@ judge_ok d n h (walked xs) t e =
     ok_is e = cc
 
 judged_read : (b : Bool) (m : ℕ) (h k : Head) (xs ys : List Link) → judged_as (cond b (File.uncovered m) (File.sound h xs)) ≡ read k ys → xs ≡ ys
-judged_read true m h k xs ys e = let z : ◌≡◌ {A = ℕ} 0 1 = cc in absurd (omega arith)
+judged_read true m h k xs ys e = absurd (cc)
 judged_read false m h k xs ys e = cc
 
 pub judge_walk : (d : ℕ) (h k : Head) (w : Walk) (xs : List Link) → judged_as (judged d h w) ≡ read k xs → w ≡ walked xs
-judge_walk d h k (broken i) xs e = let z : ◌≡◌ {A = ℕ} 0 1 = cc in absurd (omega arith)
+judge_walk d h k (broken i) xs e = absurd (cc)
 judge_walk d h k (walked ys) xs e = ap walked (judged_read (ltb (lowest_from d h.issued ys) (2 ^ d)) (lowest_from d h.issued ys) h k ys xs e)
 
 -- ---- the head
 test_err : (b : Bool) (k : Head) (f : Halt) (v : File) → Err f ≡ cond b (Ok k) (Err (plainly BadHead)) → judged_as (cond b v File.bad_head) ≡ declined f
-test_err true k f v e = let z : ◌≡◌ {A = ℕ} 0 1 = cc in absurd (omega arith)
+test_err true k f v e = absurd (cc)
 test_err false k f v e = cc
 
 named_err : (d g w : ℕ) (s : Slots) (o : Option Head) (f : Halt) → Err f ≡ head_named g w o → judged_as (headed d g w s o) ≡ declined f
@@ -72,10 +74,10 @@ head_err d g w m s on f r e = ⊎_elim
 test_ok : (d : ℕ) (s : Slots) (b : Bool) (k h : Head) → Ok h ≡ cond b (Ok k) (Err (plainly BadHead)) →
     judged_as (cond b (judged d k (walk d (suc (2 ^ d)) s 0 None 0 k.first)) File.bad_head) ≡ chain_of d h s
 test_ok d s true k h e = let q : k ≡ h = cc in ap (λ (x : Head). chain_of d x s) q
-test_ok d s false k h e = let z : ◌≡◌ {A = ℕ} 0 1 = cc in absurd (omega arith)
+test_ok d s false k h e = absurd (cc)
 
 named_ok : (d g w : ℕ) (s : Slots) (o : Option Head) (h : Head) → Ok h ≡ head_named g w o → judged_as (headed d g w s o) ≡ chain_of d h s
-named_ok d g w s None h e = let z : ◌≡◌ {A = ℕ} 0 1 = cc in absurd (omega arith)
+named_ok d g w s None h e = absurd (cc)
 named_ok d g w s (Some k) h e = test_ok d s (eqb k.generator g && eqb k.sealer w) k h e
 
 pub head_ok : (d g w m : ℕ) (s : Slots) (on : Bool) (h : Head) → ltb m (room_of (length s)) ≡ false → Ok h ≡ head_read d g w s on →
@@ -84,27 +86,24 @@ unfolding file_of
 head_ok d g w m s on h r e = ⊎_elim
     (λ (t : ltb 0 (length s) ≡ true). ⊎_elim
     (λ (p : on ≡ true). (p, rw (r, t, p) (named_ok d g w s (head_of d (get_or s 0 [])) h (rw (t, p) at e))))
-    (λ (p : on ≡ false). let q = rw (t, p) at e in let z : ◌≡◌ {A = ℕ} 0 1 = cc in absurd (omega arith))
+    (λ (p : on ≡ false). let q = rw (t, p) at e in absurd (cc))
     (cases_Bool on))
-    (λ (t : ltb 0 (length s) ≡ false). let q = rw t at e in let z : ◌≡◌ {A = ℕ} 0 1 = cc in absurd (omega arith))
+    (λ (t : ltb 0 (length s) ≡ false). let q = rw t at e in absurd (cc))
     (cases_Bool (ltb 0 (length s)))
 
 -- ---- the number asked for
-asked_through : (d n m : ℕ) (o : Option ℕ) (b : Bool) (h : Head) (xs : List Link) → n ≡ asked_of o h →
-    answer_of d o (judged_as (cond b (File.uncovered m) (File.sound h xs))) ≡ answer_of d (Some n) (judged_as (cond b (File.uncovered m) (File.sound h xs)))
-asked_through d n m o true h xs e = refl
-asked_through d n m o false h xs e = ap (λ (k : ℕ). Ok (record { head = h; length = length xs; found = find_in d k 0 xs })) (sym e)
+asked_through : (d m : ℕ) (o : Option ℕ) (b : Bool) (h : Head) (xs : List Link) →
+    answer_of d o (judged_as (cond b (File.uncovered m) (File.sound h xs))) ≡ answer_of d (Some (unwrap_or o h.issued)) (judged_as (cond b (File.uncovered m) (File.sound h xs)))
+asked_through d m (Some n) b h xs = refl
+asked_through d m None true h xs = refl
+asked_through d m None false h xs = refl
 
-pub asked_is : (d n : ℕ) (o : Option ℕ) (h : Head) (w : Walk) → n ≡ asked_of o h → answer_of d o (judged_as (judged d h w)) ≡ answer_of d (Some n) (judged_as (judged d h w))
-asked_is d n o h (broken i) e = refl
-asked_is d n o h (walked xs) e = asked_through d n (lowest_from d h.issued xs) o (ltb (lowest_from d h.issued xs) (2 ^ d)) h xs e
+pub asked_is : (d : ℕ) (o : Option ℕ) (h : Head) (w : Walk) → answer_of d o (judged_as (judged d h w)) ≡ answer_of d (Some (unwrap_or o h.issued)) (judged_as (judged d h w))
+asked_is d o h (broken i) = refl
+asked_is d o h (walked xs) = asked_through d (lowest_from d h.issued xs) o (ltb (lowest_from d h.issued xs) (2 ^ d)) h xs
 
--- ---- the marks
-pub marks_declined : (d m : ℕ) (n : Option ℕ) (r : Reading) (f : Halt) → Err f ≡ answer_of d n r → marks_of m r ≡ zeros m
-marks_declined d m n (declined h) f e = refl
-marks_declined d m n (read h xs) f e = let z : ◌≡◌ {A = ℕ} 0 1 = cc in absurd (omega arith)
-
-pub marks_read : (d m : ℕ) (n : Option ℕ) (r : Reading) (v : Survey) (row : List ℕ) → Ok v ≡ answer_of d n r →
-    ((h : Head) (xs : List Link) → r ≡ read h xs → row ≡ marked_all (zeros m) xs) → row ≡ marks_of m r
-marks_read d m n (declined h) v row e f = let z : ◌≡◌ {A = ℕ} 0 1 = cc in absurd (omega arith)
-marks_read d m n (read h xs) v row e f = f h xs refl
+-- ---- the marks: they go where the walk is declined
+pub marks_kept : (d m : ℕ) (n : Option ℕ) (r : Reading) (v : Result Survey Halt) (row out : List ℕ) → v ≡ answer_of d n r →
+    ((h : Head) (xs : List Link) → r ≡ read h xs → row ≡ marked_all (zeros m) xs) → (is_err v ≡ true → out ≡ zeros m) → (is_err v ≡ false → out ≡ row) → out ≡ marks_of m r
+marks_kept d m n (declined h) v row out e f a b = a (ap is_err e)
+marks_kept d m n (read h xs) v row out e f a b = b (ap is_err e) ∙ f h xs refl

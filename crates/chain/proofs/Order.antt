@@ -1,14 +1,13 @@
 -- The order along the chain, as the code tests it.
-use Rattle.std.proofs.Common.{◌≡◌, ℕ, ◌-◌, ◌*◌, ◌%◌, ◌^◌, ◌<◌, ◌≤◌, Bool, true, false, not, T, eqb, ltb, leb, Some, None, Option, sym, refl, ap, ◌∙◌, subst, inl, inr, ⊎_elim, arith, pow_pos}
-use Rattle.std.proofs.lemmas.Bool.{cases_Bool, cases_lt, and_parts, eq-eqb, eqb-true, le-leb, leb-true, ltb-true}
+use Rattle.std.proofs.Common.{◌≡◌, ℕ, ◌-◌, ◌*◌, ◌%◌, ◌^◌, ◌<◌, ◌≤◌, Bool, true, false, T, eqb, ltb, leb, sym, refl, ap, ◌∙◌, inl, inr, ⊎_elim, arith, pow_pos}
+use Rattle.std.proofs.lemmas.Bool.{cases_Bool, cases_lt, and_parts, eq-eqb, eqb-true, leb-true, ltb-true}
 use Rattle.tree.specs.declared.Node.{Node}
 use Rattle.tree.specs.Nodes.{node_at, width_of, IsNode, Twins}
 use Rattle.tree.proofs.Members.{range}
 use Rattle.tree.proofs.Places.{under_of_node}
 use Rattle.tree.proofs.Shapes.{node_from, twins_from, twins_to}
 use Rattle.layout.specs.Records.{is_node}
-use Rattle.chain.specs.Reading.{end_of, is_twin, may_follow}
-use Rattle.chain.specs.Steps.{Preceding}
+use Rattle.chain.specs.Reading.{end_of, is_twin}
 
 -- a node ends within the tree, and after its first number
 pub end_within : (d : ℕ) (x : Node) → IsNode d x → end_of d x ≤ 2 ^ d
@@ -47,18 +46,9 @@ twin_from d x y i j t =
     ] in
     twins_from d (width_of d x.depth) x y i refl deep (eqb-true _ _ a.0) (eqb-true _ _ b.1) n
 
-twin_is : (d : ℕ) (x y : Node) (r : Bool) → IsNode d x → IsNode d y → (T r → Twins d x y) → (Twins d x y → T r) → r ≡ is_twin d x y
+pub twin_is : (d : ℕ) (x y : Node) (r : Bool) → IsNode d x → IsNode d y → (T r → Twins d x y) → (Twins d x y → T r) → r ≡ is_twin d x y
 twin_is d x y true i j f g = sym (twin_true d x y (f tt))
 twin_is d x y false i j f g = ⊎_elim
     (λ (t : is_twin d x y ≡ true). absurd (g (twin_from d x y i j t)))
     (λ (t : is_twin d x y ≡ false). sym t)
     (cases_Bool (is_twin d x y))
-
-pub follow_some : (d from : ℕ) (before : Option Node) (x y : Node) (r : Bool) → before ≡ Some x → Preceding d before from → IsNode d y → from ≤ y.first →
-    (T r → Twins d x y) → (Twins d x y → T r) → not r ≡ may_follow d from before y
-follow_some d from None x y r e p j l f g = let z : ◌≡◌ {A = ℕ} 0 1 = cc in absurd (omega arith)
-follow_some d from (Some z) x y r e p j l f g =
-    let q : z ≡ x = cc in
-    let i : IsNode d x = subst (IsNode d) q p.0 in
-    let t : leb from y.first ≡ true = le-leb _ _ l in
-    rw t (ap not (twin_is d x y r i j f g ∙ ap (λ (v : Node). is_twin d v y) (sym q)))

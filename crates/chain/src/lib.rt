@@ -10,7 +10,7 @@ ghost use Rattle.device.specs.Effects.{blank};
 ghost use Rattle.fault.specs.Faults.{placed};
 ghost use Rattle.refusal.specs.declared.Refusal.TheVariants.{BadLink};
 ghost use Rattle.tree.specs.Nodes.{tree_levels, IsNode};
-ghost use Rattle.chain.specs.Reading.{Link, Walk.walked, end_of, may_follow, walk};
+ghost use Rattle.chain.specs.Reading.{Link, Walk.walked, end_of, is_twin, may_follow, walk};
 ghost use Rattle.chain.specs.Listing.{counted, tally_of, none_yet, marked_all};
 ghost use Rattle.chain.specs.Outcome.{Reading.read, chain_of, reading_of, answer_of, marks_of, head_read, record_read};
 ghost use Rattle.layout.specs.declared.Head.{Head};
@@ -20,7 +20,7 @@ ghost use Rattle.marks.specs.Rows.{first_of};
 
 use device::ReadSlots;
 use fault::Halt;
-use layout::{Head, NodeFields, decode_head, decode_node};
+use layout::{Head, NodeFields, Numbers, decode_head, decode_node};
 use marks::{count_unmarked, first_unmarked, mark, room};
 use octets::{Wiped, clear};
 use refusal::Refusal;
@@ -31,20 +31,19 @@ use tree::{LEVELS, Node};
 pub const LEAVES: u32 = 1 << LEVELS;
 
 /// The number of numbers.
-pub fn leaves_stand() -> u8
+pub fn leaves_stand()
     ensures { LEAVES ≡ 2 ^ tree_levels }
-{
-    0
-}
+{}
 
 /// A record of the chain, with the slots of its neighbours.
 #[derive(Clone, Copy)]
 pub struct Found {
     pub slot: u16,
-    /// the slot of the record before it, 0 for the head
+    /// the slot of the record before it, or of the head, which is 0
     pub before: u16,
     pub node: Node,
     /// the slot of the record after it, 0 for none
+    // no Option: it is laid out again as it was read, and in a record an index has no other form
     pub next: u16,
 }
 
@@ -74,23 +73,13 @@ fn bad_link(slot: u16) -> Halt
 }
 
 // Reads the head, which has to name this generator and this sealer.
-fn read_head<D: ReadSlots>(
-    device: &D,
-    generator: u8,
-    sealer: u8,
-    slot: &mut [u8; 64],
-) -> Result<Head, Halt>
-    ensures { result ≡ head_read tree_levels generator sealer (D.slots device.now) (D.powered device.now) }
+fn read_head<D: ReadSlots>(device: &D, numbers: Numbers, slot: &mut [u8; 64]) -> Result<Head, Halt>
+    ensures { result ≡ head_read tree_levels numbers.generator numbers.sealer (D.slots device.now) (D.powered device.now) }
 {
     read_at(device, 0, slot)?;
-    let bad = Halt::plain(Refusal::BadHead);
-    let Some(head) = decode_head(LEVELS, slot) else {
-        return Err(bad);
-    };
-    if head.generator != generator || head.sealer != sealer {
-        return Err(bad);
-    }
-    Ok(head)
+    decode_head(LEVELS, slot)
+        .filter(|head| head.numbers() == numbers)
+        .ok_or(Halt::plain(Refusal::BadHead))
 }
 
 // Reads a record of the chain.
@@ -102,10 +91,23 @@ fn read_record<D: ReadSlots>(
     ensures { result ≡ record_read tree_levels (D.slots device.now) (D.powered device.now) index }
 {
     read_at(device, index, slot)?;
-    match decode_node(LEVELS, slot) {
-        Some(fields) => Ok(fields),
-        None => Err(bad_link(index)),
-    }
+    decode_node(LEVELS, slot).ok_or(bad_link(index))
+}
+
+// The number after the last one that a node covers.
+fn end_of(node: Node) -> u32
+    requires { IsNode tree_levels node }
+    ensures { result ≡ end_of tree_levels node }
+{
+    node.first + node.width(LEVELS)
+}
+
+// Whether two nodes are the children of one node, the left one first.
+fn is_twin(left: Node, right: Node) -> bool
+    requires { (IsNode tree_levels left) × (IsNode tree_levels right) }
+    ensures { result ≡ is_twin tree_levels left right }
+{
+    left.has_sibling(LEVELS, &right)
 }
 
 // Whether a node may come after the one that ends at `from`.
@@ -113,13 +115,7 @@ fn may_follow(from: u32, before: Option<Node>, node: Node) -> bool
     requires { (Preceding tree_levels before from) × (IsNode tree_levels node) }
     ensures { result ≡ may_follow tree_levels from before node }
 {
-    if node.first < from {
-        return false;
-    }
-    match before {
-        Some(left) => !left.has_sibling(LEVELS, &node),
-        None => true,
-    }
+    from <= node.first && before.is_none_or(|left| !is_twin(left, node))
 }
 
 impl Tally {
@@ -128,26 +124,17 @@ impl Tally {
         requires { (IsNode tree_levels here.node) × (self.length < 2 ^ tree_levels) }
         ensures { result ≡ counted tree_levels wanted self here }
     {
-        let end = here.node.first + here.node.width(LEVELS);
+        let end = end_of(here.node);
         let lowest = if here.node.first <= self.lowest {
             self.lowest.max(end)
         } else {
             self.lowest
         };
-        let found = match self.found {
-            Some(found) => Some(found),
-            None => {
-                if here.node.first <= wanted && wanted < end {
-                    Some(here)
-                } else {
-                    None
-                }
-            }
-        };
+        let covers = here.node.first <= wanted && wanted < end;
         Tally {
             length: self.length + 1,
             lowest,
-            found,
+            found: self.found.or(covers.then_some(here)),
         }
     }
 }
@@ -175,6 +162,7 @@ fn walk_along<D: ReadSlots>(
     let mut from = 0;
     let mut last = 0;
     let mut next = head.first;
+    // links and no index: each record names the next
     while next != 0 {
         if next as usize >= count {
             return Err(bad_link(last));
@@ -188,7 +176,7 @@ fn walk_along<D: ReadSlots>(
             return Err(bad_link(next));
         }
         mark(marks, next as usize);
-        let more = tally.with(
+        tally = tally.with(
             wanted,
             Found {
                 slot: next,
@@ -197,8 +185,7 @@ fn walk_along<D: ReadSlots>(
                 next: fields.next,
             },
         );
-        tally = more;
-        from = node.first + node.width(LEVELS);
+        from = end_of(node);
         before = Some(node);
         last = next;
         next = fields.next;
@@ -229,19 +216,20 @@ fn judge<D: ReadSlots>(
     })
 }
 
+// Marks and slot stay two, here and in the calls: each buffer has its own length and its own promise, and a struct of borrows would be
+// made for each call and taken apart in it.
 /// Reads a file: its head, its chain's length, and the record that covers the number asked for, or else the number to be
 /// issued next. Afterwards just the slots of the chain are marked, and none where reading is declined. `slot` is lent for
 /// key material, and zero afterwards.
 pub fn read_marking<D: ReadSlots>(
     device: &D,
-    generator: u8,
-    sealer: u8,
+    numbers: Numbers,
     asked: Option<u32>,
     marks: &mut [u8],
     slot: &mut [u8; 64],
 ) -> Result<Survey, Halt>
-    ensures is { result ≡ answer_of tree_levels asked (reading_of tree_levels generator sealer (length marks.old) (D.slots device.now) (D.powered device.now)) }
-    ensures marks { marks.new ≡ marks_of (length marks.old) (reading_of tree_levels generator sealer (length marks.old) (D.slots device.now) (D.powered device.now)) }
+    ensures is { result ≡ answer_of tree_levels asked (reading_of tree_levels numbers.generator numbers.sealer (length marks.old) (D.slots device.now) (D.powered device.now)) }
+    ensures marks { marks.new ≡ marks_of (length marks.old) (reading_of tree_levels numbers.generator numbers.sealer (length marks.old) (D.slots device.now) (D.powered device.now)) }
     ensures wiped { slot.new ≡ blank }
 {
     let guard = Wiped { pad: slot };
@@ -249,36 +237,31 @@ pub fn read_marking<D: ReadSlots>(
     if marks.len() < room(device.count()) {
         return Err(Halt::plain(Refusal::ShortBuffer));
     }
-    let head = read_head(device, generator, sealer, guard.pad)?;
-    let wanted = match asked {
-        Some(number) => number,
-        None => head.issued,
-    };
-    match judge(device, &head, wanted, marks, guard.pad) {
-        Ok(survey) => Ok(survey),
-        Err(halt) => {
-            clear(marks);
-            Err(halt)
-        }
+    let head = read_head(device, numbers, guard.pad)?;
+    let wanted = asked.unwrap_or(head.issued);
+    let survey = judge(device, &head, wanted, marks, guard.pad);
+    if survey.is_err() {
+        clear(marks);
     }
+    survey
 }
 
 /// Reads a file as `read_marking` does, and leaves no marks. The laws say what a file that is read is, what is told of one
 /// that is not, and that a chain laid out as the cover of the spent numbers is read back.
+#[tactic(auto, using(crate::proofs::Backs::file_laws))]
 pub fn read_file<D: ReadSlots>(
     device: &D,
-    generator: u8,
-    sealer: u8,
+    numbers: Numbers,
     asked: Option<u32>,
     marks: &mut [u8],
     slot: &mut [u8; 64],
 ) -> Result<Survey, Halt>
-    ensures is { result ≡ answer_of tree_levels asked (reading_of tree_levels generator sealer (length marks.old) (D.slots device.now) (D.powered device.now)) }
+    ensures is { result ≡ answer_of tree_levels asked (reading_of tree_levels numbers.generator numbers.sealer (length marks.old) (D.slots device.now) (D.powered device.now)) }
     ensures marks { marks.new ≡ zeros (length marks.old) }
     ensures wiped { slot.new ≡ blank }
     ensures laws { FileLaws }
 {
-    let read = read_marking(device, generator, sealer, asked, marks, slot);
+    let read = read_marking(device, numbers, asked, marks, slot);
     clear(marks);
     read
 }

@@ -1,46 +1,42 @@
 //! Looks at a device after reopening: its chain against the cover, its free slots, and every ticket that was given.
 //! The cover is worked out apart from the library's own, to compare with.
-use crate::scene::{Down, MARKS, NUMBERS, Story, Up, redeem, reopen};
+use crate::scene::{Down, MARKS, NUMBERS, Story, Tickets, Up, redeem, reopen};
+use beds::slot_at;
 use chachaseal::ChaChaSealer;
 use chain::{Survey, read_file};
 use device::{ReadSlots, WriteSlots};
 use fault::Call;
 use generators::ChaChaGenerator;
-use samples::all_are;
+use samples::{add, all_are};
 use server::Cold;
-use serving::{device_of, record_at};
+use serving::{PAIR, device_of, record_at};
 
 // The levels of the tree, and how many numbers it has.
 const LEVELS: u8 = 16;
 
 const LEAVES: u32 = 65_536;
 
+fn is_spent(n: u32, numbers: &Tickets) -> bool {
+    numbers.get(n as usize).is_some_and(|number| number.spent)
+}
+
 // The first number from one on that is not spent.
-fn unspent_from(from: u32, spent: &[bool; NUMBERS]) -> u32 {
-    let mut number = from;
-    for n in 0..NUMBERS {
-        if spent[n] && number == n as u32 {
-            number = n as u32 + 1;
-        }
-    }
-    number
+fn unspent_from(from: u32, numbers: &Tickets) -> u32 {
+    (from..LEAVES)
+        .find(|n| !is_spent(*n, numbers))
+        .unwrap_or(LEAVES)
 }
 
 // Whether a spent number lies under a node.
-fn is_touched(first: u32, width: u32, spent: &[bool; NUMBERS]) -> bool {
-    let mut touched = false;
-    for n in 0..NUMBERS {
-        let number = n as u32;
-        touched = touched || (spent[n] && first <= number && number - first < width);
-    }
-    touched
+fn is_touched(first: u32, width: u32, numbers: &Tickets) -> bool {
+    (0..LEAVES).zip(numbers).any(|(n, number)| number.spent && first <= n && n - first < width)
 }
 
 // The depth and the width of the widest node that begins at a number and covers no spent one.
-fn widest_at(first: u32, spent: &[bool; NUMBERS]) -> (u8, u32) {
+fn widest_at(first: u32, numbers: &Tickets) -> (u8, u32) {
     for depth in 0..LEVELS {
         let width = LEAVES >> depth;
-        if first.checked_rem(width) == Some(0) && !is_touched(first, width, spent) {
+        if first.checked_rem(width) == Some(0) && !is_touched(first, width, numbers) {
             return (depth, width);
         }
     }
@@ -48,12 +44,12 @@ fn widest_at(first: u32, spent: &[bool; NUMBERS]) -> (u8, u32) {
 }
 
 // Whether the records from a slot on are the cover of the spent numbers, in order.
-fn is_cover<D: ReadSlots>(device: &D, survey: &Survey, spent: &[bool; NUMBERS]) -> bool {
+fn is_cover<D: ReadSlots>(device: &D, survey: &Survey, numbers: &Tickets) -> bool {
     let mut next = survey.head.first;
     let mut from = 0;
     for _ in 0..survey.length {
-        from = unspent_from(from, spent);
-        let (depth, width) = widest_at(from, spent);
+        from = unspent_from(from, numbers);
+        let (depth, width) = widest_at(from, numbers);
         match record_at(device, next) {
             Some(fields) if fields.depth == depth && fields.first as u32 == from => {
                 next = fields.next;
@@ -62,37 +58,31 @@ fn is_cover<D: ReadSlots>(device: &D, survey: &Survey, spent: &[bool; NUMBERS]) 
         }
         from = from.saturating_add(width);
     }
-    next == 0 && unspent_from(from, spent) == LEAVES
+    next == 0 && unspent_from(from, numbers) == LEAVES
 }
 
 // How many slots but the head's are not zero.
-fn used<D: ReadSlots>(device: &D) -> u32 {
-    let mut used = 0u32;
-    let mut slot = [0; 64];
-    for i in 1..device.count() {
-        if device.read(i, &mut slot).is_err() || !all_are(&slot, 0) {
-            used = used.saturating_add(1);
-        }
-    }
-    used
+fn used<D: ReadSlots>(device: &D) -> usize {
+    (1..device.count())
+        .filter(|i| !slot_at(device, *i).is_some_and(|slot| all_are(&slot, 0)))
+        .count()
 }
 
 fn survey<D: ReadSlots>(device: &D) -> Option<Survey> {
-    read_file(device, 1, 1, None, &mut [0; MARKS], &mut [0; 64]).ok()
+    read_file(device, PAIR, None, &mut [0; MARKS], &mut [0; 64]).ok()
 }
 
 // Whether the chain is the cover of the spent numbers, and everything off it is zero.
-fn is_clean<D: ReadSlots>(device: &D, spent: &[bool; NUMBERS]) -> bool {
-    match survey(device) {
-        Some(survey) => is_cover(device, &survey, spent) && used(device) == survey.length,
-        None => false,
-    }
+fn is_clean<D: ReadSlots>(device: &D, numbers: &Tickets) -> bool {
+    survey(device).is_some_and(|survey| {
+        is_cover(device, &survey, numbers) && used(device) == survey.length as usize
+    })
 }
 
 // Notes whether the chain is the cover and all else zero.
 fn note_clean<D: ReadSlots>(device: &D, story: &mut Story) {
-    if is_clean(device, &story.spent) {
-        story.clean = story.clean.saturating_add(1);
+    if is_clean(device, &story.numbers) {
+        add(&mut story.clean, 1);
     } else {
         story.wrong = true;
     }
@@ -101,24 +91,22 @@ fn note_clean<D: ReadSlots>(device: &D, story: &mut Story) {
 // A number whose join was cut is spent if the chain is the cover with it spent.
 fn settle<D: ReadSlots>(device: &D, story: &mut Story) {
     if let Some(n) = story.doubt {
-        let mut with = story.spent;
-        with[n % NUMBERS] = true;
+        let mut with = story.numbers;
+        with[n % NUMBERS].spent = true;
         if is_clean(device, &with) {
-            story.spent = with;
+            story.numbers = with;
         }
     }
 }
 
 // Whether the head counts the tickets given, or one more where an issue was cut.
 fn is_counted<D: ReadSlots>(device: &D, story: &Story) -> bool {
-    match survey(device) {
-        Some(survey) => {
-            let issued = survey.head.issued as usize;
-            let one_more = issued == story.given.saturating_add(1);
-            issued == story.given || (one_more && story.cut == Some(Call::Issue))
-        }
-        None => false,
-    }
+    survey(device).is_some_and(|survey| {
+        let given = story.given();
+        let issued = survey.head.issued as usize;
+        let one_more = issued.checked_sub(1) == Some(given);
+        issued == given || (one_more && story.cut == Some(Call::Issue))
+    })
 }
 
 // Redeems every ticket that was given, each twice.
@@ -128,11 +116,9 @@ fn redeem_each<D: WriteSlots>(server: Down<D>, story: &mut Story) -> Result<Up<D
         story.wrong = true;
     }
     let mut server = server?;
-    for n in 0..NUMBERS {
-        if n < story.given {
-            server = redeem(server, n, story)?;
-            server = redeem(server, n, story)?;
-        }
+    for n in 0..story.given() {
+        server = redeem(server, n, story)?;
+        server = redeem(server, n, story)?;
     }
     Ok(server)
 }

@@ -5,7 +5,7 @@ use device::WriteSlots;
 use fault::{Call, Fault, Step};
 use generators::ChaChaGenerator;
 use refusal::Refusal;
-use samples::{Bytes, KEY_NAME, ROOT, record_of, session};
+use samples::{Bytes, KEY_NAME, ROOM, ROOT, add, record_of, session};
 use scratch::Scratch;
 use server::{Cold, Running};
 use serving::{opened, split};
@@ -22,19 +22,27 @@ pub(crate) type Up<D> = Running<D, ChaChaGenerator, ChaChaSealer>;
 /// A cold server of the scenario.
 pub(crate) type Down<D> = Cold<D, ChaChaGenerator, ChaChaSealer>;
 
+/// What was seen of a number.
+#[derive(Clone, Copy)]
+pub(crate) struct Number {
+    /// its ticket, once it is given
+    pub(crate) ticket: Option<Bytes>,
+    /// how often its own state was given
+    pub(crate) opened: u32,
+    /// whether it is spent for certain
+    pub(crate) spent: bool,
+}
+
+/// The numbers that are issued, from number 0 on.
+pub(crate) type Tickets = [Number; NUMBERS];
+
 /// What was seen from outside up to the cut.
 #[derive(Clone, Copy)]
 pub(crate) struct Story {
     /// the call that the power cut met
     pub(crate) cut: Option<Call>,
     pub(crate) made: bool,
-    /// how many tickets were given, from number 0 on
-    pub(crate) given: usize,
-    tickets: [Bytes; NUMBERS],
-    /// how often each number's own state was given
-    pub(crate) opened: [u32; NUMBERS],
-    /// the numbers that are spent for certain
-    pub(crate) spent: [bool; NUMBERS],
+    pub(crate) numbers: Tickets,
     /// the number whose join was cut: spent or not
     pub(crate) doubt: Option<usize>,
     /// how often the chain was found to be the cover of the spent numbers, with zeros in every slot off it
@@ -46,25 +54,27 @@ pub(crate) struct Story {
 impl Story {
     /// Nothing seen yet.
     pub(crate) fn new() -> Story {
+        let unseen = Number {
+            ticket: None,
+            opened: 0,
+            spent: false,
+        };
         Story {
             cut: None,
             made: false,
-            given: 0,
-            tickets: [Bytes::none(); NUMBERS],
-            opened: [0; NUMBERS],
-            spent: [false; NUMBERS],
+            numbers: [unseen; NUMBERS],
             doubt: None,
             clean: 0,
             wrong: false,
         }
     }
 
-    fn keep(&mut self, ticket: Bytes) {
-        let n = self.given;
-        if n < NUMBERS {
-            self.tickets[n] = ticket;
-            self.given = n + 1;
-        }
+    /// How many tickets were given.
+    pub(crate) fn given(&self) -> usize {
+        self.numbers
+            .iter()
+            .filter(|number| number.ticket.is_some())
+            .count()
     }
 
     // A call ended without the answer that it should have: only for want of power.
@@ -78,11 +88,11 @@ impl Story {
 
     // A state came out: it has to be the number's own, and the first.
     fn yielded(&mut self, n: usize, state: &Bytes) {
-        let own = record(n);
-        let first = !self.spent[n % NUMBERS] && self.opened[n % NUMBERS] == 0;
-        self.opened[n % NUMBERS] = self.opened[n % NUMBERS].saturating_add(1);
-        self.spent[n % NUMBERS] = true;
-        if !first || state.length != own.length || state.row != own.row {
+        let number = &mut self.numbers[n % NUMBERS];
+        let first = !number.spent && number.opened == 0;
+        add(&mut number.opened, 1);
+        number.spent = true;
+        if !first || *state != record(n) {
             self.wrong = true;
         }
     }
@@ -96,13 +106,13 @@ impl Story {
                 self.stopped(fault);
             }
             Some(Step::Erasure) => {
-                self.spent[n % NUMBERS] = true;
+                self.numbers[n % NUMBERS].spent = true;
                 self.stopped(fault);
             }
             Some(_) => self.wrong = true,
             None => {
                 let told = fault.refusal == Refusal::Spent && fault.place as usize == n;
-                if !told || !self.spent[n % NUMBERS] {
+                if !told || !self.numbers[n % NUMBERS].spent {
                     self.wrong = true;
                 }
             }
@@ -124,21 +134,19 @@ fn make<D: WriteSlots>(server: Down<D>, story: &mut Story) -> Result<Up<D>, Down
     server
 }
 
-fn issue<D: WriteSlots>(server: Up<D>, story: &mut Story) -> Result<Up<D>, Down<D>> {
-    let own = record(story.given);
-    let mut ticket = Bytes::none();
-    let mut scratch = Scratch::new();
+// Issues the ticket of a number.
+fn issue<D: WriteSlots>(server: Up<D>, n: usize, story: &mut Story) -> Result<Up<D>, Down<D>> {
+    let own = record(n);
+    let mut row = [0; ROOM];
+    let mut marks = [0; MARKS];
     let (server, answer) = split(server.issue(
         own.part(),
-        &mut ticket.row,
-        &mut [0; MARKS],
-        &mut scratch,
+        &mut row,
+        &mut marks,
+        &mut Scratch::new(),
     ));
     match answer {
-        Ok((length, _)) => {
-            ticket.length = length;
-            story.keep(ticket);
-        }
+        Ok((length, _)) => story.numbers[n % NUMBERS].ticket = Some(Bytes { row, length }),
         Err(fault) => story.stopped(fault),
     }
     server
@@ -150,20 +158,20 @@ pub(crate) fn redeem<D: WriteSlots>(
     n: usize,
     story: &mut Story,
 ) -> Result<Up<D>, Down<D>> {
-    let ticket = story.tickets[n % NUMBERS];
-    let mut state = Bytes::none();
-    let mut scratch = Scratch::new();
+    let Some(ticket) = story.numbers[n % NUMBERS].ticket else {
+        story.wrong = true;
+        return Ok(server);
+    };
+    let mut row = [0; ROOM];
+    let mut marks = [0; MARKS];
     let (server, answer) = split(server.redeem(
         ticket.part(),
-        &mut state.row,
-        &mut [0; MARKS],
-        &mut scratch,
+        &mut row,
+        &mut marks,
+        &mut Scratch::new(),
     ));
     match answer {
-        Ok((length, _)) => {
-            state.length = length;
-            story.yielded(n, &state);
-        }
+        Ok((length, _)) => story.yielded(n, &Bytes { row, length }),
         Err(fault) => story.declined(n, fault),
     }
     server
@@ -185,8 +193,8 @@ fn close_and_reopen<D: WriteSlots>(server: Up<D>, story: &mut Story) -> Result<U
 /// Runs the scenario.
 pub(crate) fn play<D: WriteSlots>(server: Down<D>, story: &mut Story) -> Result<Up<D>, Down<D>> {
     let mut server = make(server, story)?;
-    for _ in 0..NUMBERS {
-        server = issue(server, story)?;
+    for n in 0..NUMBERS {
+        server = issue(server, n, story)?;
     }
     let server = redeem(server, 1, story)?;
     let server = close_and_reopen(server, story)?;

@@ -1,5 +1,5 @@
 //! What is done to the bytes that are sent: a record or a ticket.
-use samples::{Bytes, ROOM};
+use samples::Bytes;
 
 /// One change.
 #[derive(Clone, Copy)]
@@ -18,9 +18,15 @@ pub(crate) enum Edit {
     TurnLast,
 }
 
+fn put(bytes: &mut Bytes, at: usize, to: u8) {
+    if let Some(byte) = bytes.row.get_mut(at) {
+        *byte = to;
+    }
+}
+
 fn turn(bytes: &mut Bytes, at: usize) {
-    if at < ROOM {
-        bytes.row[at] ^= 1;
+    if let Some(byte) = bytes.row.get_mut(at) {
+        *byte ^= 1;
     }
 }
 
@@ -30,11 +36,7 @@ fn apply(bytes: &mut Bytes, overhead: usize, edit: Edit) {
         Edit::Length(length) => bytes.length = length,
         Edit::Beyond(length) => bytes.length = overhead.saturating_add(length),
         Edit::Shorter => bytes.length = last,
-        Edit::Put(at, to) => {
-            if at < ROOM {
-                bytes.row[at] = to;
-            }
-        }
+        Edit::Put(at, to) => put(bytes, at, to),
         Edit::Turn(at) => turn(bytes, at),
         Edit::TurnLast => turn(bytes, last),
     }
@@ -43,8 +45,8 @@ fn apply(bytes: &mut Bytes, overhead: usize, edit: Edit) {
 /// The bytes after some changes.
 pub(crate) fn edited(bytes: &Bytes, overhead: usize, edits: &[Edit]) -> Bytes {
     let mut changed = *bytes;
-    for one in edits {
-        apply(&mut changed, overhead, *one);
+    for edit in edits {
+        apply(&mut changed, overhead, *edit);
     }
     changed
 }

@@ -14,43 +14,35 @@ use generators::{ChaChaGenerator, ShaGenerator};
 use hmacseal::HmacSealer;
 use memory::Memory;
 use octets::same_bytes;
+use refusal::Refusal;
 use report::Report;
 use samples::all_are;
-use stand::{Bed, FILE, ROW, Stand};
+use stand::{FILE, Ground, ROW, Stand};
 
 type First = Stand<ShaGenerator, HmacSealer>;
 
 // A file of the first pair, opened by servers of others.
 fn other_pairs(report: &mut Report, stand: &First) {
-    let other = Stand {
-        g: ChaChaGenerator,
-        s: HmacSealer,
-        file: stand.file,
-        tickets: stand.tickets,
-    };
+    let refused = (Refusal::BadHead, 0);
     let what = "opened by a server of generator 1, sealer 2";
-    other.reopen(report, what, &stand.file, 4, 0);
-    let other = Stand {
-        g: ShaGenerator,
-        s: ChaChaSealer,
-        file: stand.file,
-        tickets: stand.tickets,
-    };
+    let other = stand.with(ChaChaGenerator, HmacSealer);
+    other.reopen(report, what, &stand.file, refused);
     let what = "opened by a server of generator 2, sealer 1";
-    other.reopen(report, what, &stand.file, 4, 0);
+    let other = stand.with(ShaGenerator, ChaChaSealer);
+    other.reopen(report, what, &stand.file, refused);
 }
 
 fn power_cuts(report: &mut Report, stand: &First) {
     report.show.println("Power cuts");
-    stand.series(report, Bed::Memory, &[9; ROW], &MADE);
+    stand.series(report, Ground::Memory, &[9; ROW], &MADE);
     for steps in [OLD_HEAD, NEW_HEAD] {
-        let ticket = stand.series(report, Bed::Memory, &stand.file, &steps);
+        let ticket = stand.series(report, Ground::Memory, &stand.file, &steps);
         println!(report.show; "    the ticket's number is {}", ticket.row[19]);
     }
-    stand.series(report, Bed::Memory, &stand.file, &JOINED);
-    stand.series(report, Bed::Memory, &stand.file, &ERASED);
+    stand.series(report, Ground::Memory, &stand.file, &JOINED);
+    stand.series(report, Ground::Memory, &stand.file, &ERASED);
     report.show.println("  over the journal over a byte image:");
-    stand.series(report, Bed::Journal, &stand.file, &TORN);
+    stand.series(report, Ground::Journal, &stand.file, &TORN);
 }
 
 // Reads and writes past the end of a memory device.
@@ -79,7 +71,7 @@ fn first_pair(report: &mut Report) {
     stand.slot_counts(report);
     stand.bad_records(report);
     report.show.println("Damaged heads");
-    stand.reopen(report, "a file of zeros", &[0; ROW], 4, 0);
+    stand.reopen(report, "a file of zeros", &[0; ROW], (Refusal::BadHead, 0));
     stand.bad_files(report, &HEADS);
     other_pairs(report, &stand);
     report.show.println("Damaged records of the chain");
@@ -91,7 +83,7 @@ fn first_pair(report: &mut Report) {
         .show
         .println("Numbers that are not issued and lie under no record");
     stand.bad_files(report, &UNCOVERED);
-    stand.series(report, Bed::Memory, &stand.file, &RESTORED);
+    stand.series(report, Ground::Memory, &stand.file, &RESTORED);
     stand.all_issued(report);
     stand.own_cases(report);
     power_cuts(report, &stand);

@@ -1,18 +1,17 @@
 //! A server's sound file with its tickets, and the calls that are made on it.
-use crate::report::{Outcome, Report};
+use crate::report::{Answer, Outcome, Report};
+use beds::{Base, Bed, Medium, put_away};
 use device::WriteSlots;
 use fault::{Call, Fault};
-use generator::{Generator, descend};
-use image::ByteImage;
-use journal::Journal;
-use memory::Memory;
+use generator::Generator;
+use medium::Cut;
 use octets::same_bytes;
 use samples::{Bytes, KEY_NAME, ROOM, ROOT, all_are, record_of, session};
 use scratch::Scratch;
-use sealer::{Sealer, heading};
-use server::Cold;
+use sealer::Sealer;
+use server::{Answered, Cold, Running};
 use serving::{Held, device_of, opened, split};
-use tree::{LEVELS, Node};
+use tickets::{TOP, key_from, ticket_of};
 
 /// The fewest slots that a tree fits on.
 pub(crate) const SLOTS: usize = 18;
@@ -28,11 +27,20 @@ const ISSUED: usize = 5;
 // The most marks that are lent here.
 const MARKS: usize = 1025;
 
-/// The device that a call is made on.
+/// Where a file lies: in a memory device's slots, or in those of a journal over a byte image.
 #[derive(Clone, Copy)]
-pub(crate) enum Bed {
+pub(crate) enum Ground {
     Memory,
     Journal,
+}
+
+impl Ground {
+    fn lay<'a>(self, row: &'a mut [u8; ROW], cut: Option<Cut>) -> Bed<'a> {
+        match self {
+            Ground::Memory => Base::Whole.lay(&mut row[FILE..], cut),
+            Ground::Journal => Base::Journaled(Medium::Bytes).lay(row, cut),
+        }
+    }
 }
 
 /// A call: what is sent, and how many bytes are lent for the answer and for marks.
@@ -76,41 +84,32 @@ pub(crate) fn record(k: usize) -> Bytes {
     record_of(&session(b"a guest", (k % 256) as u8))
 }
 
+// What making or reopening answers: neither writes anything.
+fn begun<D, G, S>(
+    answer: Result<Running<D, G, S>, (Cold<D, G, S>, Fault)>,
+) -> (Held<D, G, S>, Answer) {
+    let (server, fault) = opened(answer);
+    (server, fault.map_or(Ok(None), Err))
+}
+
+// What a call answers that is made on a server once it is reopened.
+fn served<D, G, S, F: FnOnce(Running<D, G, S>) -> Answered<D, G, S>>(
+    reopened: Result<Running<D, G, S>, (Cold<D, G, S>, Fault)>,
+    call: F,
+) -> (Held<D, G, S>, Answer)
+    requires { F.IsAlwaysCallable call }
+{
+    match reopened {
+        Ok(server) => {
+            let (server, answer) = split(call(server));
+            (server, answer.map(Some))
+        }
+        Err((cold, fault)) => (Err(cold), Err(fault)),
+    }
+}
+
 impl<G: Generator + Copy, S: Sealer + Copy> Stand<G, S> {
-    /// Makes or reopens a tree.
-    pub(crate) fn begin<D: WriteSlots>(
-        &self,
-        device: D,
-        call: Call,
-        marks: &mut [u8],
-        scratch: &mut Scratch,
-    ) -> (Held<D, G, S>, Option<Fault>) {
-        let cold = Cold::new(device, self.g, self.s);
-        match call {
-            Call::Make => opened(cold.make(&ROOT, &KEY_NAME, scratch)),
-            _ => opened(cold.reopen(marks, scratch)),
-        }
-    }
-
-    // Reopens the tree, and issues or redeems.
-    fn serve<D: WriteSlots>(
-        &self,
-        device: D,
-        asked: &Asked,
-        room: &mut [u8],
-        marks: &mut [u8],
-        scratch: &mut Scratch,
-    ) -> (Held<D, G, S>, Result<(usize, u32), Fault>) {
-        match Cold::new(device, self.g, self.s).reopen(&mut [0; SLOTS], scratch) {
-            Ok(server) => match asked.call {
-                Call::Issue => split(server.issue(asked.sent.part(), room, marks, scratch)),
-                _ => split(server.redeem(asked.sent.part(), room, marks, scratch)),
-            },
-            Err((cold, fault)) => (Err(cold), Err(fault)),
-        }
-    }
-
-    // Makes any call. Making and reopening give no numbers.
+    // Makes a call on a cold server.
     fn answer<D: WriteSlots>(
         &self,
         device: D,
@@ -118,17 +117,18 @@ impl<G: Generator + Copy, S: Sealer + Copy> Stand<G, S> {
         room: &mut [u8],
         marks: &mut [u8],
         scratch: &mut Scratch,
-    ) -> (Held<D, G, S>, Result<(usize, u32), Fault>) {
+    ) -> (Held<D, G, S>, Answer) {
+        let cold = Cold::new(device, self.g, self.s);
+        let sent = asked.sent.part();
         match asked.call {
-            Call::Make | Call::Reopen => {
-                let (server, fault) = self.begin(device, asked.call, marks, scratch);
-                let answer = match fault {
-                    Some(fault) => Err(fault),
-                    None => Ok((0, 0)),
-                };
-                (server, answer)
-            }
-            _ => self.serve(device, asked, room, marks, scratch),
+            Call::Make => begun(cold.make(&ROOT, &KEY_NAME, scratch)),
+            Call::Reopen => begun(cold.reopen(marks, scratch)),
+            Call::Issue => served(cold.reopen(&mut [0; SLOTS], scratch), |server| {
+                server.issue(sent, room, marks, scratch)
+            }),
+            Call::Redeem => served(cold.reopen(&mut [0; SLOTS], scratch), |server| {
+                server.redeem(sent, room, marks, scratch)
+            }),
         }
     }
 
@@ -147,64 +147,41 @@ impl<G: Generator + Copy, S: Sealer + Copy> Stand<G, S> {
             &mut marks[..lent],
             &mut scratch,
         );
-        let numbers = answer.unwrap_or((0, 0));
+        let length = answer.ok().flatten().map_or(0, |(length, _)| length);
         let clean = all_are(&row[..room], 0)
             && all_are(&marks[..lent], 0)
             && all_are(&scratch.slot, 0);
         let outcome = Outcome {
-            fault: answer.err(),
-            numbers,
-            given: Bytes {
-                row,
-                length: numbers.0,
-            },
+            answer,
+            given: Bytes { row, length },
             clean,
-            same: false,
         };
         (device_of(server), outcome)
     }
 
-    /// Makes a call on a row, with a power cut after so many writes and with so many bytes of the next one standing.
+    /// Makes a call on a row, with a power cut or none. Tells also whether every slot is as it was.
     pub(crate) fn call_on(
         &self,
-        bed: Bed,
+        ground: Ground,
         row: &mut [u8; ROW],
-        cut: (usize, usize),
+        cut: Option<Cut>,
         asked: &Asked,
-    ) -> Outcome {
+    ) -> (Outcome, bool) {
         let before = *row;
-        let mut outcome = match bed {
-            Bed::Memory => {
-                let mut memory = Memory::new(&mut row[FILE..]);
-                memory.appoint(cut.0, cut.1);
-                let (_memory, outcome) = self.call(memory, asked);
-                outcome
-            }
-            Bed::Journal => {
-                let mut image = ByteImage::new(row);
-                image.appoint(cut.0, cut.1);
-                let (journal, outcome) = self.call(Journal::new(image), asked);
-                let _image = journal.into_below();
-                outcome
-            }
-        };
-        outcome.same = same_bytes(row, &before);
-        outcome
+        let (bed, outcome) = self.call(ground.lay(row, cut), asked);
+        put_away(bed);
+        (outcome, same_bytes(row, &before))
     }
 
     // One call of the laying out, which has to be done.
     fn lay(&mut self, report: &mut Report, call: Call, sent: Bytes) -> Bytes {
         let mut row = self.file;
-        let outcome = self.call_on(
-            Bed::Memory,
-            &mut row,
-            (usize::MAX, 0),
-            &Asked::new(call, sent),
-        );
+        let asked = Asked::new(call, sent);
+        let (outcome, _same) = self.call_on(Ground::Memory, &mut row, None, &asked);
         self.file = row;
         report
             .show
-            .expect(outcome.fault.is_none(), "the file cannot be laid out");
+            .expect(outcome.answer.is_ok(), "the file cannot be laid out");
         outcome.given
     }
 
@@ -222,37 +199,27 @@ impl<G: Generator + Copy, S: Sealer + Copy> Stand<G, S> {
             tickets: [Bytes::none(); ISSUED],
         };
         let _made = stand.lay(report, Call::Make, Bytes::none());
-        for k in 0..ISSUED {
-            stand.tickets[k] = stand.lay(report, Call::Issue, record(k));
+        let mut tickets = stand.tickets;
+        for (k, ticket) in tickets.iter_mut().enumerate() {
+            *ticket = stand.lay(report, Call::Issue, record(k));
         }
-        let first = stand.tickets[0];
-        let _state = stand.lay(report, Call::Redeem, first);
-        stand
+        let _state = stand.lay(report, Call::Redeem, tickets[0]);
+        Stand { tickets, ..stand }
     }
 
-    // The key of a number.
-    fn key_of(&self, n: u32) -> [u8; 32] {
-        let top = Node { depth: 0, first: 0 };
-        let mut key = ROOT;
-        let mut left = [0; 32];
-        let mut right = [0; 32];
-        let _calls = descend(&self.g, LEVELS, &top, n, &mut key, &mut left, &mut right);
-        key
+    /// The same file and tickets, with another generator and another sealer.
+    pub(crate) fn with<H, T>(&self, g: H, s: T) -> Stand<H, T> {
+        Stand {
+            g,
+            s,
+            file: self.file,
+            tickets: self.tickets,
+        }
     }
 
-    /// A ticket whose heading and seal are right, for any plain.
-    pub(crate) fn forge(&self, n: u32, plain: &[u8]) -> Bytes {
-        let key = self.key_of(n);
-        let mut front = [0; 20];
-        heading(&KEY_NAME, n, &mut front);
-        let mut ticket = Bytes::none();
-        ticket.row[..20].copy_from_slice(&front);
-        let mut pad = [0; 64];
-        let sealed = self
-            .s
-            .seal(&key, &front, plain, &mut ticket.row[20..], &mut pad)
-            .unwrap_or(0);
-        ticket.length = sealed.saturating_add(20);
-        ticket
+    /// A ticket whose heading and seal are right, for any plain; none where the plain is too long, or the number too great.
+    pub(crate) fn forge(&self, n: u32, plain: &[u8]) -> Option<Bytes> {
+        let (key, _) = key_from(&self.g, &TOP, &ROOT, n)?;
+        ticket_of(&self.s, &key, &KEY_NAME, n, plain).ok()
     }
 }

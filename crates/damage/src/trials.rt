@@ -1,17 +1,19 @@
 //! The cases run on a sound file.
-use crate::cases::{COUNTS, CROWDED, EXHAUSTED, FileCase, NEVER, RECORDS, SHORT, Step, TICKETS};
+use crate::cases::{COUNTS, CROWDED, EXHAUSTED, FileCase, RECORDS, Refused, SHORT, Step, TICKETS};
 use crate::edits::{Edit, edited};
 use crate::report::Report;
-use crate::stand::{Asked, Bed, FILE, ROW, SLOTS, Stand, record};
+use crate::stand::{Asked, FILE, Ground, ROW, SLOTS, Stand, record};
+use beds::{Base, put_away};
 use device::WriteSlots;
 use fault::{Call, Fault};
 use generator::Generator;
-use memory::Memory;
 use octets::same_bytes;
-use samples::{Bytes, all_are};
+use refusal::Refusal;
+use samples::{Bytes, ROOM, all_are};
 use scratch::Scratch;
 use sealer::Sealer;
-use serving::{Held, device_of, split};
+use server::Cold;
+use serving::{Held, device_of, opened, split};
 
 // With 1,025 slots, a device has one too many.
 const LONGEST: usize = 65600;
@@ -25,11 +27,18 @@ impl<G: Generator + Copy, S: Sealer + Copy> Stand<G, S> {
         }
     }
 
-    // Makes a call on a copy of the file, and shows what comes of it.
-    fn attempt(&self, report: &mut Report, what: &str, asked: &Asked, number: u8, place: u32) {
-        let mut row = self.file;
-        let outcome = self.call_on(Bed::Memory, &mut row, NEVER, asked);
-        report.tell(what, &outcome, number, place);
+    // Makes a call on a copy of a file, and shows what comes of it.
+    fn attempt(
+        &self,
+        report: &mut Report,
+        what: &str,
+        file: &[u8; ROW],
+        asked: &Asked,
+        wanted: Option<Refused>,
+    ) {
+        let mut row = *file;
+        let (outcome, same) = self.call_on(Ground::Memory, &mut row, None, asked);
+        report.tell(what, &outcome, same, wanted);
     }
 
     /// Lends too few bytes.
@@ -42,7 +51,8 @@ impl<G: Generator + Copy, S: Sealer + Copy> Stand<G, S> {
                 room,
                 marks,
             };
-            self.attempt(report, what, &asked, 1, 0);
+            let wanted = Some((Refusal::ShortBuffer, 0));
+            self.attempt(report, what, &self.file, &asked, wanted);
         }
     }
 
@@ -58,9 +68,11 @@ impl<G: Generator + Copy, S: Sealer + Copy> Stand<G, S> {
             };
             let mut row = [9; LONGEST];
             let length = LONGEST.min(slots.saturating_mul(64));
-            let (_memory, mut outcome) = self.call(Memory::new(&mut row[..length]), &asked);
-            outcome.same = all_are(&row, 9);
-            report.tell(what, &outcome, 2, 0);
+            let memory = Base::Whole.lay(&mut row[..length], None);
+            let (memory, outcome) = self.call(memory, &asked);
+            put_away(memory);
+            let wanted = Some((Refusal::SlotCount, 0));
+            report.tell(what, &outcome, all_are(&row, 9), wanted);
         }
     }
 
@@ -68,34 +80,33 @@ impl<G: Generator + Copy, S: Sealer + Copy> Stand<G, S> {
     pub(crate) fn bad_records(&self, report: &mut Report) {
         report.show.println("Bytes that are no state record");
         for (what, edits) in RECORDS {
-            let sent = edited(&record(5), 0, edits);
-            self.attempt(report, what, &Asked::new(Call::Issue, sent), 3, 0);
+            let asked = Asked::new(Call::Issue, edited(&record(5), 0, edits));
+            let wanted = Some((Refusal::NotARecord, 0));
+            self.attempt(report, what, &self.file, &asked, wanted);
         }
+        let what = "the same record undamaged, issue";
         let sound = Asked::new(Call::Issue, record(5));
-        self.attempt(report, "the same record undamaged, issue", &sound, 0, 0);
+        self.attempt(report, what, &self.file, &sound, None);
     }
 
-    /// Reopens a file that is refused, or done where the number is 0.
+    /// Reopens a file that is refused.
     pub(crate) fn reopen(
         &self,
         report: &mut Report,
         what: &str,
         file: &[u8; ROW],
-        number: u8,
-        place: u32,
+        refused: Refused,
     ) {
-        let mut row = *file;
         let asked = Asked::new(Call::Reopen, Bytes::none());
-        let outcome = self.call_on(Bed::Memory, &mut row, NEVER, &asked);
-        report.tell(what, &outcome, number, place);
+        self.attempt(report, what, file, &asked, Some(refused));
     }
 
     /// Reopens damaged files.
     pub(crate) fn bad_files(&self, report: &mut Report, cases: &[FileCase]) {
-        for (what, changes, number, place) in cases {
+        for (what, changes, refused) in cases {
             let mut row = self.file;
             change(&mut row, changes);
-            self.reopen(report, what, &row, *number, *place);
+            self.reopen(report, what, &row, *refused);
         }
     }
 
@@ -103,61 +114,75 @@ impl<G: Generator + Copy, S: Sealer + Copy> Stand<G, S> {
     pub(crate) fn bad_tickets(&self, report: &mut Report) {
         let overhead = self.s.overhead();
         println!(report.show; "Damaged tickets, with a sealer of overhead {overhead}");
-        for (what, n, edits, number, place) in TICKETS {
+        for (what, n, edits, refused) in TICKETS {
             let sent = edited(&self.sent(Call::Redeem, n), overhead, edits);
-            self.attempt(report, what, &Asked::new(Call::Redeem, sent), number, place);
+            self.bad_ticket(report, what, sent, refused);
         }
-        let zeros = Asked::new(Call::Redeem, self.forge(1, &[0; 55]));
-        self.attempt(report, "55 zeros sealed", &zeros, 13, 1);
+        self.forged(report, "55 zeros sealed", 1, &[0; 55]);
         let cropped = edited(&record(1), 0, &[Edit::Shorter]);
-        let forged = Asked::new(Call::Redeem, self.forge(3, cropped.part()));
-        self.attempt(report, "a cropped record sealed", &forged, 13, 3);
+        self.forged(report, "a cropped record sealed", 3, cropped.part());
     }
 
-    // Redeems two tickets at one running server.
-    fn redeem_both<D: WriteSlots>(
+    // Redeems a ticket in which something else than a record is sealed.
+    fn forged(&self, report: &mut Report, what: &str, n: u32, plain: &[u8]) {
+        let Some(ticket) = self.forge(n, plain) else {
+            report.show.expect(false, "a ticket is not forged");
+            return;
+        };
+        let refused = (Refusal::OpenedNotARecord, n);
+        self.bad_ticket(report, what, ticket, refused);
+    }
+
+    // Redeems a ticket that is refused.
+    fn bad_ticket(&self, report: &mut Report, what: &str, ticket: Bytes, refused: Refused) {
+        let asked = Asked::new(Call::Redeem, ticket);
+        self.attempt(report, what, &self.file, &asked, Some(refused));
+    }
+
+    // Redeems tickets at one running server, one after the other, and notes what each comes to.
+    fn redeem_each<D: WriteSlots>(
         &self,
         server: Held<D, G, S>,
         tickets: &[Bytes; 2],
-        state: &mut Bytes,
-        answers: &mut [Result<(usize, u32), Fault>; 2],
+        state: &mut [u8; ROOM],
+        answers: &mut [Option<Result<(usize, u32), Fault>>; 2],
     ) -> Held<D, G, S> {
         let mut scratch = Scratch::new();
         let mut marks = [7; SLOTS];
-        let first = tickets[0].part();
-        let (server, answer) = split(server?.redeem(
-            first,
-            &mut state.row,
-            &mut marks,
-            &mut scratch,
-        ));
-        answers[0] = answer;
-        let second = tickets[1].part();
-        let (server, answer) = split(server?.redeem(
-            second,
-            &mut state.row,
-            &mut marks,
-            &mut scratch,
-        ));
-        answers[1] = answer;
-        server
+        let mut server = server?;
+        for (ticket, told) in tickets.iter().zip(answers) {
+            let (held, answer) = split(server.redeem(
+                ticket.part(),
+                state,
+                &mut marks,
+                &mut scratch,
+            ));
+            *told = Some(answer);
+            server = held?;
+        }
+        Ok(server)
     }
 
     /// One running server refuses a changed ticket, and then redeems the ticket as it was.
     pub(crate) fn goes_on(&self, report: &mut Report) {
         let good = self.tickets[1];
         let tickets = [edited(&good, 0, &[Edit::Turn(20)]), good];
-        let mut state = Bytes::none();
-        let mut answers = [Ok((0, 0)); 2];
-        let mut row = self.file;
-        let memory = Memory::new(&mut row[FILE..]);
-        let mut scratch = Scratch::new();
-        let (server, _fault) = self.begin(memory, Call::Reopen, &mut [7; SLOTS], &mut scratch);
-        let _memory = device_of(self.redeem_both(server, &tickets, &mut state, &mut answers));
-        let refused = answers[0].is_err();
-        let (length, calls) = answers[1].unwrap_or((0, 0));
-        state.length = length;
-        let own = same_bytes(state.part(), record(1).part());
+        let mut row = [0; ROOM];
+        let mut answers = [None; 2];
+        let mut file = self.file;
+        let memory = Base::Whole.lay(&mut file[FILE..], None);
+        let server = reopened(Cold::new(memory, self.g, self.s));
+        put_away(device_of(self.redeem_each(server, &tickets, &mut row, &mut answers)));
+        let [first, second] = answers;
+        let refused = first.is_some_and(|answer| answer.is_err());
+        let Some(Ok((length, calls))) = second else {
+            report.show.expect(
+                false,
+                "the same server does not redeem the ticket as it was",
+            );
+            return;
+        };
+        let own = same_bytes(Bytes { row, length }.part(), record(1).part());
         println!(report.show; "  one server, the changed ticket of number 1: refused {refused}");
         println!(report.show;
             "  the same server, the ticket as it was: done, {length} bytes by {calls} generator calls"
@@ -172,16 +197,16 @@ impl<G: Generator + Copy, S: Sealer + Copy> Stand<G, S> {
     pub(crate) fn series(
         &self,
         report: &mut Report,
-        bed: Bed,
+        ground: Ground,
         file: &[u8; ROW],
         steps: &[Step],
     ) -> Bytes {
         let mut row = *file;
         let mut given = Bytes::none();
-        for (what, call, n, cut, number, place) in steps {
+        for (what, call, n, cut, refused) in steps {
             let asked = Asked::new(*call, self.sent(*call, *n));
-            let outcome = self.call_on(bed, &mut row, *cut, &asked);
-            report.tell(what, &outcome, *number, *place);
+            let (outcome, same) = self.call_on(ground, &mut row, *cut, &asked);
+            report.tell(what, &outcome, same, *refused);
             given = outcome.given;
         }
         given
@@ -192,7 +217,7 @@ impl<G: Generator + Copy, S: Sealer + Copy> Stand<G, S> {
         report.show.println("All numbers issued");
         let mut row = self.file;
         change(&mut row, &[(0, 7, 1), (0, 9, 0)]);
-        self.series(report, Bed::Memory, &row, &EXHAUSTED);
+        self.series(report, Ground::Memory, &row, &EXHAUSTED);
     }
 
     /// What hangs on the generator and the sealer.
@@ -200,8 +225,16 @@ impl<G: Generator + Copy, S: Sealer + Copy> Stand<G, S> {
         self.bad_tickets(report);
         self.goes_on(report);
         report.show.println("Too few free slots");
-        self.series(report, Bed::Memory, &self.file, &CROWDED);
+        self.series(report, Ground::Memory, &self.file, &CROWDED);
     }
+}
+
+// Reopens a server on a sound file.
+fn reopened<D: WriteSlots, G: Generator + Copy, S: Sealer + Copy>(
+    cold: Cold<D, G, S>,
+) -> Held<D, G, S> {
+    let (server, _fault) = opened(cold.reopen(&mut [7; SLOTS], &mut Scratch::new()));
+    server
 }
 
 // Puts bytes into the slots of a file.

@@ -30,12 +30,11 @@ pub enum DeviceFault {
     NoPower,
 }
 
-impl DeviceFault {
-    /// The refusal that this is.
-    pub fn refusal(self) -> Refusal
-        ensures { result ≡ refusal_of self }
-    {
-        match self {
+impl From<DeviceFault> for Refusal {
+    ghost from_gives = { λ fault r. r ≡ refusal_of fault };
+
+    fn from(fault: DeviceFault) -> Refusal {
+        match fault {
             DeviceFault::NoSuchSlot => Refusal::NoSuchSlot,
             DeviceFault::NoPower => Refusal::NoPower,
         }
@@ -59,6 +58,8 @@ pub trait ReadSlots {
     fn read(&self, index: usize, out: &mut [u8; 64]) -> Result<(), DeviceFault>
         ensures { Reading (slots self.now) (powered self.now) index result out.new };
 }
+
+// WriteSlots and TearSlots differ in one relation, and stay two traits: the project asks for whole writes by the type.
 
 /// A device whose writes are whole: a cut leaves a slot old or new.
 pub trait WriteSlots: ReadSlots {

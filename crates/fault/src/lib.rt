@@ -50,6 +50,7 @@ pub enum Step {
 #[derive(Clone, Copy, PartialEq, Eq, Debug)]
 pub struct Halt {
     pub refusal: Refusal,
+    // no Option, as in `Fault`
     pub place: u32,
     pub step: Option<Step>,
 }
@@ -61,6 +62,7 @@ pub struct Fault {
     pub call: Call,
     pub layer: Layer,
     /// the slot or the ticket number that the refusal speaks of, else 0
+    // no Option: the refusal says which it is, a slot or a number of which 0 is one, or nothing
     pub place: u32,
     /// for want of power: what was being done
     pub step: Option<Step>,
@@ -71,11 +73,8 @@ pub fn layer_of(refusal: Refusal) -> Layer
     ensures { result ≡ layer_of refusal }
 {
     match refusal {
-        Refusal::BadHead => Layer::Chain,
-        Refusal::BadLink => Layer::Chain,
-        Refusal::Uncovered => Layer::Chain,
-        Refusal::NoPower => Layer::Device,
-        Refusal::NoSuchSlot => Layer::Device,
+        Refusal::BadHead | Refusal::BadLink | Refusal::Uncovered => Layer::Chain,
+        Refusal::NoPower | Refusal::NoSuchSlot => Layer::Device,
         _ => Layer::Server,
     }
 }

@@ -48,10 +48,8 @@ pub extern "C" fn fishqalgo_chacha_seal(
     ensures declined { (Sealable 16 plain.now (length out.old) → ⊥) → (result ≡ 0) × (out.new ≡ zeros (length out.old)) }
     ensures wiped { pad.new ≡ zeros 64 }
 {
-    match ChaChaSealer.seal(key, heading, plain, out, pad) {
-        Ok(n) => n,
-        Err(_) => 0,
-    }
+    let sealed = ChaChaSealer.seal(key, heading, plain, out, pad);
+    sealed.unwrap_or(0)
 }
 
 /// Seals `plain` with sealer 2, as above.
@@ -67,8 +65,6 @@ pub extern "C" fn fishqalgo_hmac_seal(
     ensures declined { (Sealable 32 plain.now (length out.old) → ⊥) → (result ≡ 0) × (out.new ≡ zeros (length out.old)) }
     ensures wiped { pad.new ≡ zeros 64 }
 {
-    match HmacSealer.seal(key, heading, plain, out, pad) {
-        Ok(n) => n,
-        Err(_) => 0,
-    }
+    let sealed = HmacSealer.seal(key, heading, plain, out, pad);
+    sealed.unwrap_or(0)
 }

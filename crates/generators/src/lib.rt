@@ -12,7 +12,7 @@ ghost use Rattle.std.proofs.ByRecursion.{All-take, All-drop};
 ghost use Rattle.octets.proofs.Small.{each_small};
 ghost use Rattle.sha.proofs.Digests.{digest_long, digest_bytes};
 
-use generator::Generator;
+use generator::{Generator, Value};
 use sha::Sha256;
 
 // The numbers that a key file knows the two generators by.
@@ -44,7 +44,7 @@ impl Generator for ChaChaGenerator {
         CHACHA
     }
 
-    fn expand(&self, value: &[u8; 32], left: &mut [u8; 32], right: &mut [u8; 32]) {
+    fn expand(&self, value: &Value, left: &mut Value, right: &mut Value) {
         chacha::halves(value, 0, &[0; 12], left, right);
     }
 }
@@ -69,14 +69,14 @@ impl Generator for ShaGenerator {
         SHA
     }
 
-    fn expand(&self, value: &[u8; 32], left: &mut [u8; 32], right: &mut [u8; 32]) {
+    fn expand(&self, value: &Value, left: &mut Value, right: &mut Value) {
         hash_with(value, 0, left);
         hash_with(value, 1, right);
     }
 }
 
 // The digest of a value and one more byte.
-fn hash_with(value: &[u8; 32], last: u8, out: &mut [u8; 32])
+fn hash_with(value: &Value, last: u8, out: &mut Value)
     ensures { out.new ≡ sha256 (value.now ++ last ∷ []) }
 {
     let mut h = Sha256::new();

@@ -36,6 +36,7 @@ impl Model for Hmac {
 
 impl Hmac {
     /// A MAC under `key` that has been fed nothing. The key block stands in `pad` alone, which holds zeros afterwards.
+    #[tactic(auto, using(crate::proofs::Macs::masks), unfolding(crate::specs::Mac::inner_block, crate::specs::Mac::outer_block))]
     pub fn new(key: &[u8], pad: &mut [u8; 64]) -> Hmac
         ensures keyed { result ≡ record { key = key.now; message = [] } }
         ensures wiped { pad.new ≡ replicate 64 0 }
@@ -65,6 +66,7 @@ impl Hmac {
     }
 
     /// Writes the MAC of what was fed. The laws say of every MAC that it is 32 bytes.
+    #[tactic(auto, using(crate::proofs::Macs::mac_laws), unfolding(crate::specs::Mac::hmac))]
     pub fn finish(mut self, out: &mut [u8; 32])
         ensures is { out.new ≡ hmac self.key self.message }
         ensures laws { MacLaws }
@@ -75,6 +77,7 @@ impl Hmac {
     }
 
     /// Writes the MAC of what was fed to the start of a block, and zeros after it, for a MAC that is key material.
+    #[tactic(auto, using(crate::proofs::Macs::front_of_digest), unfolding(crate::specs::Mac::hmac))]
     pub fn finish_block(mut self, out: &mut [u8; 64])
         ensures { out.new ≡ hmac self.key self.message ++ replicate 32 0 }
     {
@@ -85,6 +88,7 @@ impl Hmac {
 }
 
 // Writes the key block: the key, or the digest of a key longer than a block, and zeros after it.
+#[tactic(auto, using(crate::proofs::Macs::short_block, crate::proofs::Macs::long_block))]
 fn key_block(key: &[u8], pad: &mut [u8; 64])
     ensures { pad.new ≡ key_block key.now }
 {
@@ -99,10 +103,11 @@ fn key_block(key: &[u8], pad: &mut [u8; 64])
 }
 
 // Changes each byte of the pad by XOR with `b`.
+#[tactic(auto, using(crate::proofs::Macs::turns))]
 fn mask(pad: &mut [u8; 64], b: u8)
     ensures { pad.new ≡ masked b pad.old }
 {
-    for i in 0..64usize {
-        pad[i] ^= b;
+    for x in pad.iter_mut() {
+        *x ^= b;
     }
 }

@@ -4,6 +4,18 @@ use Rattle.octets.specs.Fields.{bytes_of}
 use Rattle.hmac.specs.Mac.{hmac}
 use Rattle.sealing.specs.Covering.{sealing_of}
 
+-- the number by which trees name this sealer
+abbrev pub sealer_number : ℕ
+sealer_number = 2
+
+-- the bytes of a keystream block, which is a whole MAC
+abbrev pub block_size : ℕ
+block_size = 32
+
+-- the bytes of a tag, which is a whole MAC
+abbrev pub tag_size : ℕ
+tag_size = 32
+
 -- the keystream: the HMACs of the byte 1 and the block's place in four bytes
 unfoldable pub stream_block : List ℕ → ℕ → List ℕ
 stream_block key i = hmac key (0x01 ∷ bytes_of 4 i)
@@ -14,4 +26,4 @@ tag_of key heading bytes = hmac key (0x02 ∷ (heading ++ bytes))
 
 -- the sealing of a plain: the plain under the keystream, then the tag
 abbrev pub sealed_bytes : List ℕ → List ℕ → List ℕ → List ℕ
-sealed_bytes key heading plain = sealing_of (stream_block key) 32 (tag_of key heading) plain
+sealed_bytes key heading plain = sealing_of (stream_block key) block_size (tag_of key heading) plain

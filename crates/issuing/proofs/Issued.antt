@@ -1,5 +1,5 @@
 -- Issuing, from what its parts tell.
-use Rattle.std.proofs.Common.{◌≡◌, ℕ, ◌-◌, ◌<◌, ◌≤◌, Bool, true, false, cond, ◌&&◌, ltb, leb, List, [], ◌∷◌, ◌++◌, length, get_or, is_err, Some, None, Ok, Err, Result, sym, refl, ap, ◌∙◌, subst, inl, inr, arith}
+use Rattle.std.proofs.Common.{◌≡◌, ℕ, ◌-◌, ◌<◌, ◌≤◌, Bool, true, false, cond, ◌&&◌, ltb, leb, List, [], ◌∷◌, ◌++◌, length, get_or, is_err, IsSome, Some, None, Option, Ok, Err, Result, sym, refl, ap, ◌∙◌, subst, inl, inr, arith}
 use Rattle.std.proofs.lemmas.Bool.{and_parts, leb-true, lt-ltb, le-ltb}
 use Rattle.octets.specs.Buffers.{zeros}
 use Rattle.refusal.specs.declared.Refusal.TheVariants.{ShortBuffer, SlotCount, NotARecord, Exhausted}
@@ -22,25 +22,19 @@ use Rattle.rules.specs.Kits.{Kit}
 use Rattle.rules.specs.Tickets.{ticket_most}
 use Rattle.rules.specs.Calls.{Sound, Outcome, Finished, count_fits, read_as, read_by, issuable, issue_verdict, issued_ticket, Issuing, Issuing.declined, Issuing.cut, Issuing.given, kept}
 use Rattle.issuing.specs.Ends.{issue_entry, Issuable, link_of, IssueEnds, ended, gave}
-use Rattle.issuing.proofs.Surveys.{seen, err_as, Told, ok_as, reading_is, link_value}
+use Rattle.issuing.proofs.Surveys.{same_halt, seen, err_as, Told, ok_as, reading_is, link_value}
 
 -- stopped before anything is written
 pub stopped : (k : Kit) (s : Slots) (on : Bool) (plain : List ℕ) (room marks : ℕ) (h : Halt) → issue_verdict k tree_levels s on plain room marks ≡ Err h →
     (headed : Bool) × Issuing k tree_levels s on plain room marks (Err h) (zeros room) s on headed
 stopped k s on plain room marks h e = (false, declined h e refl (record { slots = refl; power = refl; zero = refl }) refl)
 
-clash : {A B : Type 0} (a : A) (b : B) → ◌≡◌ {A = Result A B} (Ok a) (Err b) → ⊥
-clash a b e = let z : ◌≡◌ {A = ℕ} 0 1 = cc in omega arith
-
-same_halt : (f h : Halt) → ◌≡◌ {A = Result (Unit {0}) Halt} (Err f) (Err h) → h ≡ f
-same_halt f h e = cc
-
 entry_cases : (a b c : Bool) (l m n : Halt) (V : Result Sound Halt) (h : Halt) → Err h ≡ cond {A = Result (Unit {0}) Halt} a (cond b (cond c (Ok tt) (Err n)) (Err m)) (Err l) →
     cond a (cond b (cond c V (Err n)) (Err m)) (Err l) ≡ Err h
 entry_cases false b c l m n V h e = ap Err (same_halt h l e)
 entry_cases true false c l m n V h e = ap Err (same_halt h m e)
 entry_cases true true false l m n V h e = ap Err (same_halt h n e)
-entry_cases true true true l m n V h e = absurd (clash tt h (sym e))
+entry_cases true true true l m n V h e = absurd (cc)
 
 pub entry_err : (k : Kit) (s : Slots) (on : Bool) (plain : List ℕ) (room marks : ℕ) (h : Halt) → Err h ≡ issue_entry tree_levels s plain room marks → issue_verdict k tree_levels s on plain room marks ≡ Err h
 entry_err k s on plain room marks h e =
@@ -52,10 +46,14 @@ record Passed (a b c : Bool) : Type 0 where
   third : c ≡ true
 
 entry_passed : (a b c : Bool) (l m n : Halt) → Ok tt ≡ cond {A = Result (Unit {0}) Halt} a (cond b (cond c (Ok tt) (Err n)) (Err m)) (Err l) → Passed a b c
-entry_passed false b c l m n e = absurd (clash tt l e)
-entry_passed true false c l m n e = absurd (clash tt m e)
-entry_passed true true false l m n e = absurd (clash tt n e)
+entry_passed false b c l m n e = absurd (cc)
+entry_passed true false c l m n e = absurd (cc)
+entry_passed true true false l m n e = absurd (cc)
 entry_passed true true true l m n e = record { first = refl; second = refl; third = refl }
+
+some_by : {A : Type 0} (o : Option A) → (o ≡ None → ⊥) → IsSome o
+some_by (Some x) f = refl
+some_by None f = absurd (f refl)
 
 module _ (k : Kit) (s : Slots) (on : Bool) (plain : List ℕ) (room marks : ℕ) (entry : Ok tt ≡ issue_entry tree_levels s plain room marks) (g w : ℕ) (eg : g ≡ k.generator) (ew : w ≡ k.sealer) where
   passed : Passed (leb ticket_most room && leb (room_of (length s)) marks) (count_fits tree_levels s) (is_record plain)
@@ -99,8 +97,12 @@ module _ (k : Kit) (s : Slots) (on : Bool) (plain : List ℕ) (room marks : ℕ)
       verdict_ok : issue_verdict k tree_levels s on plain room marks ≡ Ok (v.head, told.links)
       verdict_ok = let t : ltb v.head.issued 65536 ≡ true = lt-ltb _ _ l in verdict_is ∙ ap (issuable tree_levels) read_ok ∙ rw t
 
-      pub not_none : v.found ≡ None → ⊥
+      not_none : v.found ≡ None → ⊥
       not_none n = laws.missing tree_levels v.head.issued 0 told.links (sym told.found ∙ n) (file_is.unissued v.head.issued (omega arith) l)
+
+      -- the next number lies under a record
+      pub covered : IsSome v.found
+      covered = some_by v.found not_none
 
       module _ (f : Found) (is : v.found ≡ Some f) where
         spot : FoundAt tree_levels v.head.issued 0 told.links f
@@ -163,12 +165,12 @@ module _ (k : Kit) (s : Slots) (on : Bool) (plain : List ℕ) (room marks : ℕ)
 
 -- the buffer of an issue that was stopped is cleared
 pub kept_err : (r : Outcome) (room : ℕ) (out : List ℕ) → is_err r ≡ true → kept r room out ≡ zeros room
-kept_err (Ok a) room out e = let z : ◌≡◌ {A = ℕ} 0 1 = cc in absurd (omega arith)
+kept_err (Ok a) room out e = absurd (cc)
 kept_err (Err h) room out e = refl
 
 pub kept_ok : (r : Outcome) (room : ℕ) (out : List ℕ) → is_err r ≡ false → kept r room out ≡ out
 kept_ok (Ok a) room out e = refl
-kept_ok (Err h) room out e = let z : ◌≡◌ {A = ℕ} 0 1 = cc in absurd (omega arith)
+kept_ok (Err h) room out e = absurd (cc)
 
 pub with_buffer : {k : Kit} {s : Slots} {on : Bool} {plain : List ℕ} {room marks : ℕ} {r : Outcome} {x y : List ℕ} {t : Slots} {on' : Bool} → x ≡ y →
     (headed : Bool) × Issuing k tree_levels s on plain room marks r y t on' headed → (headed : Bool) × Issuing k tree_levels s on plain room marks r x t on' headed

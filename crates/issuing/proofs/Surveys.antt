@@ -1,5 +1,5 @@
 -- What a reading tells of the file, in the words of the calls.
-use Rattle.std.proofs.Common.{◌≡◌, ℕ, Bool, true, false, cond, ltb, List, [], ◌∷◌, length, get_or, Some, Ok, Err, Option, Result, sym, refl, ap, ◌∙◌, inl, inr, arith}
+use Rattle.std.proofs.Common.{◌≡◌, ℕ, Bool, true, false, cond, ltb, List, [], ◌∷◌, length, get_or, Some, Ok, Err, Option, Result, sym, refl, ap, ◌∙◌, inl, inr}
 use Rattle.fault.specs.declared.Halt.{Halt}
 use Rattle.fault.specs.declared.Step.TheVariants.{Read}
 use Rattle.fault.specs.Faults.{unpowered}
@@ -16,10 +16,7 @@ use Rattle.chain.specs.Sound.{Chained}
 use Rattle.layout.specs.Records.{node_fields}
 use Rattle.rules.specs.Calls.{read_as}
 
-clash : {A B : Type 0} (a : A) (b : B) → ◌≡◌ {A = Result A B} (Ok a) (Err b) → ⊥
-clash a b e = let z : ◌≡◌ {A = ℕ} 0 1 = cc in omega arith
-
-same_halt : (f h : Halt) → ◌≡◌ {A = Result Survey Halt} (Err f) (Err h) → h ≡ f
+pub same_halt : {A : Type 0} (f h : Halt) → ◌≡◌ {A = Result A Halt} (Err f) (Err h) → h ≡ f
 same_halt f h e = cc
 
 -- the reading of a file, once the row of marks is long enough and there is a head to read
@@ -31,7 +28,7 @@ err_as d n false f h e = ap Err (same_halt h (unpowered 0 Read) e)
 err_as d n true bad_head h e = ap Err (same_halt h _ e)
 err_as d n true (bad_link i) h e = ap Err (same_halt h _ e)
 err_as d n true (uncovered m) h e = ap Err (same_halt h _ e)
-err_as d n true (sound k xs) h e = absurd (clash _ h (sym e))
+err_as d n true (sound k xs) h e = absurd (cc)
 
 -- a file that is read
 pub record Told (d : ℕ) (n : Option ℕ) (on : Bool) (f : File) (v : Survey) : Type 0 where
@@ -50,10 +47,10 @@ told_by d n h xs v e =
     record { links = xs; power = refl; file = ap (λ x. sound x xs) (sym k); length = ap (λ x. x.length) e; found = ap (λ x. x.found) e ∙ ap (λ x. find_in d (asked_of n x) 0 xs) (sym k) }
 
 pub ok_as : (d : ℕ) (n : Option ℕ) (on : Bool) (f : File) (v : Survey) → Ok v ≡ answer_of d n (seen on f) → Told d n on f v
-ok_as d n false f v e = absurd (clash v _ e)
-ok_as d n true bad_head v e = absurd (clash v _ e)
-ok_as d n true (bad_link i) v e = absurd (clash v _ e)
-ok_as d n true (uncovered m) v e = absurd (clash v _ e)
+ok_as d n false f v e = absurd (cc)
+ok_as d n true bad_head v e = absurd (cc)
+ok_as d n true (bad_link i) v e = absurd (cc)
+ok_as d n true (uncovered m) v e = absurd (cc)
 ok_as d n true (sound h xs) v e = told_by d n h xs v (same_survey v _ e)
 
 -- with marks for all slots, of which there are some, reading sees the file

@@ -7,9 +7,8 @@
 ghost use Rattle.std.specs.Prelude.{◌≡◌, ℕ, ◌+◌, ◌-◌, ◌^◌, ◌<◌, ◌≤◌, Bool, true, List, [], ◌++◌, length, replicate, slice_index_or};
 ghost use Rattle.octets.specs.Buffers.{zeros, filled};
 ghost use Rattle.session.specs.Limits.{most_length};
-ghost use Rattle.layout.specs.Records.{value_of};
+ghost use Rattle.layout.specs.Records.{value_of, recounted};
 ghost use Rattle.rules.specs.Tickets.{heading_of, ticket_most};
-ghost use Rattle.rules.specs.Files.{recounted};
 ghost use Rattle.rules.specs.Kits.{kit_of};
 ghost use Rattle.rules.specs.Calls.{Issuing, kept};
 ghost use Rattle.scratch.specs.Clean.{Clean};
@@ -20,9 +19,9 @@ use chain::{Found, LEAVES, read_file};
 use device::{ReadSlots, WriteSlots};
 use fault::{Halt, Step};
 use generator::{Generator, descend};
-use layout::Head;
+use layout::{Head, Numbers, copy_value, recount};
 use marks::room;
-use octets::{clear, put_u32};
+use octets::clear;
 use refusal::Refusal;
 use rules::{HEADING, slot_count};
 use scratch::Scratch;
@@ -35,18 +34,9 @@ use tree::LEVELS;
 pub const TICKET_MOST: usize = HEADING + PLAIN_LIMIT + OVERHEAD_LIMIT;
 
 /// The length of the longest ticket.
-pub fn limits_stand() -> u8
+pub fn limits_stand()
     ensures { TICKET_MOST ≡ ticket_most }
-{
-    0
-}
-
-// The value that a record holds.
-fn copy_value(slot: &[u8; 64], value: &mut [u8; 32])
-    ensures { value.new ≡ value_of slot.now }
-{
-    value.copy_from_slice(&slot[32..64]);
-}
+{}
 
 // Loads the value of the record in a slot.
 fn load_value<D: ReadSlots>(
@@ -69,7 +59,7 @@ fn next_head<D: ReadSlots>(d: &D, issued: u32, slot: &mut [u8; 64]) -> Result<()
     ensures { (result ≡ Ok tt) × (slot.new ≡ recounted (issued + 1) (slice_index_or (D.slots d.now) 0 [])) }
 {
     read_at(d, 0, slot)?;
-    put_u32(slot, 6, issued + 1);
+    recount(slot, issued + 1);
     Ok(())
 }
 
@@ -84,17 +74,15 @@ fn seal_ticket<S: Sealer>(
     pad: &mut [u8; 64],
 ) -> usize
     requires { (ticket_most ≤ length ticket.old) × (length plain.now ≤ most_length) }
-    ensures is { ticket.new ≡ filled (heading_of name.now number ++ S.Sealer.sealing s.now key.now (heading_of name.now number) plain.now) (length ticket.old) }
-    ensures long { result ≡ length (heading_of name.now number ++ S.Sealer.sealing s.now key.now (heading_of name.now number) plain.now) }
+    ensures is { ticket.new ≡ filled (heading_of name.now number ++ S.sealing s.now key.now (heading_of name.now number) plain.now) (length ticket.old) }
+    ensures long { result ≡ length (heading_of name.now number ++ S.sealing s.now key.now (heading_of name.now number) plain.now) }
 {
     let mut head = [0; HEADING];
     heading(name, number, &mut head);
-    let end = ticket.len();
-    ticket[0..HEADING].copy_from_slice(&head);
-    match s.seal(key, &head, plain, &mut ticket[HEADING..end], pad) {
-        Ok(length) => HEADING + length,
-        Err(_) => 0,
-    }
+    ticket[..HEADING].copy_from_slice(&head);
+    HEADING
+        + s.seal(key, &head, plain, &mut ticket[HEADING..], pad)
+            .unwrap()
 }
 
 // Gives the ticket of the next number, from the record that covers it: the head is written, and only then the ticket.
@@ -108,31 +96,23 @@ fn issue_found<D: WriteSlots, G: Generator, S: Sealer>(
     ticket: &mut [u8],
     scratch: &mut Scratch,
 ) -> Result<(usize, u32), Halt>
-    requires { Issuable (D.ReadSlots.slots d.old) (D.ReadSlots.powered d.old) head.now found.now plain.now (length ticket.old) }
-    ensures { IssueEnds (kit_of (G.Generator.expansion g.now) (G.Generator.code g.now) (S.Sealer.sealing s.now) (S.Sealer.overhead s.now) (S.Sealer.number s.now)) (D.ReadSlots.slots d.old) head.now found.now plain.now (length ticket.old) result ticket.new (D.ReadSlots.slots d.new) (D.ReadSlots.powered d.new) }
+    requires { Issuable (D.slots d.old) (D.powered d.old) head.now found.now plain.now (length ticket.old) }
+    ensures { IssueEnds (kit_of (G.expansion g.now) (G.code g.now) (S.sealing s.now) (S.overhead s.now) (S.number s.now)) (D.slots d.old) head.now found.now plain.now (length ticket.old) result ticket.new (D.slots d.new) (D.powered d.new) }
 {
-    load_value(d, found.slot, &mut scratch.slot, &mut scratch.key)?;
-    let calls = descend(
-        g,
-        LEVELS,
-        &found.node,
-        head.issued,
-        &mut scratch.key,
-        &mut scratch.left,
-        &mut scratch.right,
-    );
+    load_value(d, found.slot, &mut scratch.slot, &mut scratch.values.value)?;
+    let calls = descend(g, LEVELS, &found.node, head.issued, &mut scratch.values).unwrap();
     next_head(d, head.issued, &mut scratch.slot)?;
     write_at(d, 0, &scratch.slot, Step::Head)?;
     let length = seal_ticket(
         s,
         &head.name,
         head.issued,
-        &scratch.key,
+        &scratch.values.value,
         plain,
         ticket,
         &mut scratch.pad,
     );
-    Ok((length, calls.unwrap_or(0)))
+    Ok((length, calls))
 }
 
 // What stops an issue before it reads: the buffers, the slot count, the record.
@@ -159,20 +139,23 @@ fn issue_into<D: WriteSlots, G: Generator, S: Sealer>(
     marks: &mut [u8],
     scratch: &mut Scratch,
 ) -> Result<(usize, u32), Halt>
-    ensures { (headed : Bool) × Issuing (kit_of (G.Generator.expansion g.now) (G.Generator.code g.now) (S.Sealer.sealing s.now) (S.Sealer.overhead s.now) (S.Sealer.number s.now)) tree_levels (D.ReadSlots.slots d.old) (D.ReadSlots.powered d.old) plain.now (length ticket.old) (length marks.old) result (kept result (length ticket.old) ticket.new) (D.ReadSlots.slots d.new) (D.ReadSlots.powered d.new) headed }
+    ensures { (headed : Bool) × Issuing (kit_of (G.expansion g.now) (G.code g.now) (S.sealing s.now) (S.overhead s.now) (S.number s.now)) tree_levels (D.slots d.old) (D.powered d.old) plain.now (length ticket.old) (length marks.old) result (kept result (length ticket.old) ticket.new) (D.slots d.new) (D.powered d.new) headed }
 {
     may_issue(d, plain, ticket.len(), marks.len())?;
-    let survey = read_file(d, g.number(), s.number(), None, marks, &mut scratch.slot)?;
+    let numbers = Numbers {
+        generator: g.number(),
+        sealer: s.number(),
+    };
+    let survey = read_file(d, numbers, None, marks, &mut scratch.slot)?;
     if survey.head.issued >= LEAVES {
         return Err(Halt::plain(Refusal::Exhausted));
     }
-    match survey.found {
-        Some(found) => issue_found(d, g, s, &survey.head, &found, plain, ticket, scratch),
-        // never: a number that is not issued lies under a record
-        None => Err(Halt::at(Refusal::Uncovered, survey.head.issued)),
-    }
+    // a number that is not issued lies under a record
+    let found = survey.found.unwrap();
+    issue_found(d, g, s, &survey.head, &found, plain, ticket, scratch)
 }
 
+// Ticket, marks and scratch stay apart, here and in redeeming: each has its own length, and its own promise at the end.
 /// Issues the next number's ticket for a state record. For the server alone: it works on a bare device.
 pub fn issue_on<D: WriteSlots, G: Generator, S: Sealer>(
     d: &mut D,
@@ -183,7 +166,7 @@ pub fn issue_on<D: WriteSlots, G: Generator, S: Sealer>(
     marks: &mut [u8],
     scratch: &mut Scratch,
 ) -> Result<(usize, u32), Halt>
-    ensures did { (headed : Bool) × Issuing (kit_of (G.Generator.expansion g.now) (G.Generator.code g.now) (S.Sealer.sealing s.now) (S.Sealer.overhead s.now) (S.Sealer.number s.now)) tree_levels (D.ReadSlots.slots d.old) (D.ReadSlots.powered d.old) plain.now (length ticket.old) (length marks.old) result ticket.new (D.ReadSlots.slots d.new) (D.ReadSlots.powered d.new) headed }
+    ensures did { (headed : Bool) × Issuing (kit_of (G.expansion g.now) (G.code g.now) (S.sealing s.now) (S.overhead s.now) (S.number s.now)) tree_levels (D.slots d.old) (D.powered d.old) plain.now (length ticket.old) (length marks.old) result ticket.new (D.slots d.new) (D.powered d.new) headed }
     ensures marks { marks.new ≡ zeros (length marks.old) }
     ensures clean { Clean scratch.new }
 {

@@ -92,3 +92,5 @@ placing_ends s i b (Ok u) t on' h low (a, q) = (refl, q, a ∙ place_ends s i b)
 placing_ends s i b (Err e) t on' h low (n, c, q) =
     let small : i < most_slots = omega (arith, h, length_shown s) in
     (n, q, AtEachCut_short (placing s i b h low) c, ran_unused s (place_writes i b) (Err e) t on' (omega arith, (omega arith, (omega arith, (omega arith, (omega arith, tt))))) (n, c, q))
+
+pub ruleset endings = (writing_ends, restarting_ends)

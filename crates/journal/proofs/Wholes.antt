@@ -85,4 +85,4 @@ restarting_unused s (Ok u) t on' d = ran_unused s (restart_writes s) (Ok u) t on
 restarting_unused s (Err e) t on' (inl d) = ap unused_in d.1
 restarting_unused s (Err e) t on' (inr d) = ran_unused s (restart_writes s) (Err e) t on' (within_restart s) d
 
-pub ruleset meanings = (writing_means, restarting_means)
+pub ruleset meanings = (writing_means, restarting_means, writing_unused, restarting_unused)

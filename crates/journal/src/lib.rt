@@ -5,12 +5,12 @@
 //! are in place, and lowers it once the slot itself is written. A tear of any one of these writes leaves the old slot or the new one.
 #![tactic(auto)]
 
-ghost use Rattle.std.specs.Prelude.{◌≡◌, ◌+◌, ◌<◌, ◌≤◌, true, false, length, map, Some, None, MatchResult};
+ghost use Rattle.std.specs.Prelude.{◌≡◌, ◌+◌, ◌<◌, ◌≤◌, true, false, length, map, Some, None, MatchOption, MatchResult};
 ghost use Rattle.device.specs.Effects.{Writing, Restarting, slot_size, blank};
-ghost use Rattle.journal.specs.Layout.{shown, copy_in, most_slots, mark_of, mark_in, pending_in, unused_in};
+ghost use Rattle.journal.specs.Layout.{shown, most_slots, mark_of, mark_in, pending_in, unused_in};
 ghost use Rattle.journal.specs.Ends.{WritingEnds, RestartingEnds};
 ghost use Rattle.journal.specs.Sized.{shown_sized};
-ghost use Rattle.journal.specs.Writes.{write_of, clear_writes_of, clear_writes, place_writes, Within, Ran, WritingBelow, RestartingBelow};
+ghost use Rattle.journal.specs.Writes.{write_of, clear_writes, place_writes, Within, Ran, WritingBelow, RestartingBelow};
 
 use device::{DeviceFault, ReadSlots, TearSlots, WriteSlots, blank_slot};
 
@@ -24,7 +24,8 @@ const COPY: usize = 1;
 
 const FIRST: usize = 2;
 
-// The flag of a mark whose copy stands for its target, and of any other.
+// The flag of a mark whose copy stands for its target, and of any other. Bytes and no enum: below may stand any other, and it counts
+// as lowered.
 const RAISED: u8 = 1;
 
 const LOWERED: u8 = 0;
@@ -62,11 +63,7 @@ impl<D> Journal<D> {
 fn target_of(mark: &[u8; 64]) -> Option<usize>
     ensures { result ≡ pending_in mark.now }
 {
-    if mark[0] == RAISED {
-        Some(mark[1] as usize * 256 + mark[2] as usize)
-    } else {
-        None
-    }
+    (mark[0] == RAISED).then(|| u16::from_be_bytes([mark[1], mark[2]]) as usize)
 }
 
 // The slot that the copy below stands for.
@@ -84,10 +81,9 @@ fn mark_with(flag: u8, target: usize) -> [u8; 64]
     requires { target < most_slots }
     ensures { result ≡ mark_of flag target }
 {
+    let [high, low] = (target as u16).to_be_bytes();
     let mut mark = [0; 64];
-    mark[0] = flag;
-    mark[1] = (target / 256) as u8;
-    mark[2] = (target % 256) as u8;
+    mark[..3].copy_from_slice(&[flag, high, low]);
     mark
 }
 
@@ -100,7 +96,7 @@ fn shown_count<D: ReadSlots>(d: &D) -> usize
     d.count().saturating_sub(FIRST).min(MOST_SLOTS)
 }
 
-// Makes writes below in their order, until the power fails at one.
+// Makes writes below in their order, until the power fails at one. That the power is on is asked for, and no type says it: a cut ends it.
 fn run<D: TearSlots>(d: &mut D, writes: &[RawWrite]) -> Result<(), DeviceFault>
     requires on { D.ReadSlots.powered d.old ≡ true }
     requires within { Within (length (D.ReadSlots.slots d.old)) (map (λ w. write_of w.0 w.1.now) writes.now) }
@@ -110,46 +106,6 @@ fn run<D: TearSlots>(d: &mut D, writes: &[RawWrite]) -> Result<(), DeviceFault>
         d.write(*slot, bytes)?;
     }
     Ok(())
-}
-
-// Clears a flag whose copy stands for a target: the copy goes there, then zeros to the mark.
-#[tactic(auto, using(crate::proofs::Clearings::clearing))]
-fn deliver<D: TearSlots>(d: &mut D, target: usize, copy: &[u8; 64]) -> Result<(), DeviceFault>
-    requires on { D.ReadSlots.powered d.old ≡ true }
-    requires copy { copy.now ≡ copy_in (D.ReadSlots.slots d.old) }
-    requires some { 2 < length (D.ReadSlots.slots d.old) }
-    ensures { Ran (D.ReadSlots.slots d.old) (clear_writes_of (Some target) (D.ReadSlots.slots d.old)) result (D.ReadSlots.slots d.new) (D.ReadSlots.powered d.new) }
-{
-    let zeros = blank_slot();
-    if target < shown_count(d) {
-        run(d, &[(target + FIRST, &*copy), (MARK, &zeros)])
-    } else {
-        run(d, &[(MARK, &zeros)])
-    }
-}
-
-// Clears a raised flag, and leaves nothing in the pad.
-#[tactic(auto, using(crate::proofs::Clearings::clearing))]
-fn clear<D: TearSlots>(
-    d: &mut D,
-    pad: &mut [u8; 64],
-    pending: Option<usize>,
-) -> Result<(), DeviceFault>
-    requires on { D.ReadSlots.powered d.old ≡ true }
-    requires pending { pending ≡ pending_in (mark_in (D.ReadSlots.slots d.old)) }
-    requires some { 2 < length (D.ReadSlots.slots d.old) }
-    ensures step { Ran (D.ReadSlots.slots d.old) (clear_writes (D.ReadSlots.slots d.old)) result (D.ReadSlots.slots d.new) (D.ReadSlots.powered d.new) }
-    ensures wiped { pad.old ≡ blank → pad.new ≡ blank }
-{
-    match pending {
-        None => Ok(()),
-        Some(target) => {
-            d.read(COPY, pad)?;
-            let done = deliver(d, target, pad);
-            *pad = [0; 64];
-            done
-        }
-    }
 }
 
 // Puts bytes in a slot by five writes, where no flag is raised.
@@ -196,40 +152,62 @@ impl<D: ReadSlots> ReadSlots for Journal<D> {
     }
 }
 
-// A write, and what it does below.
-#[tactic(auto, using(crate::proofs::Runs::steps))]
-fn write_below<D: TearSlots>(
-    d: &mut D,
-    pad: &mut [u8; 64],
-    index: usize,
-    bytes: &[u8; 64],
-) -> Result<(), DeviceFault>
-    ensures below { WritingBelow (D.ReadSlots.slots d.old) (D.ReadSlots.powered d.old) index bytes.now result (D.ReadSlots.slots d.new) (D.ReadSlots.powered d.new) }
-    ensures wiped { pad.old ≡ blank → pad.new ≡ blank }
-{
-    if index >= shown_count(d) {
-        return Err(DeviceFault::NoSuchSlot);
+impl<D: TearSlots> Journal<D> {
+    // Clears a raised flag: the copy goes to the slot that it stands for, then zeros to the mark. The copy passes through the pad, and
+    // nothing is left there.
+    #[tactic(auto, using(crate::proofs::Clearings::clearing))]
+    fn clear(&mut self, pending: Option<usize>) -> Result<(), DeviceFault>
+        requires on { D.ReadSlots.powered self.old.below ≡ true }
+        requires pending { pending ≡ pending_in (mark_in (D.ReadSlots.slots self.old.below)) }
+        requires some { 2 < length (D.ReadSlots.slots self.old.below) }
+        ensures step { Ran (D.ReadSlots.slots self.old.below) (clear_writes (D.ReadSlots.slots self.old.below)) result (D.ReadSlots.slots self.new.below) (D.ReadSlots.powered self.new.below) }
+        ensures wiped { MatchOption pending (self.new.pad ≡ self.old.pad) (λ _. self.new.pad ≡ blank) }
+    {
+        let Some(target) = pending else {
+            return Ok(());
+        };
+        let Journal { below, pad } = self;
+        below.read(COPY, pad)?;
+        let zeros = blank_slot();
+        let done = if target < shown_count(below) {
+            run(below, &[(target + FIRST, &*pad), (MARK, &zeros)])
+        } else {
+            run(below, &[(MARK, &zeros)])
+        };
+        *pad = [0; 64];
+        done
     }
-    let pending = pending(d)?;
-    clear(d, pad, pending)?;
-    place(d, index, bytes)
-}
 
-// A restart, and what it does below.
-fn restart_below<D: TearSlots>(d: &mut D, pad: &mut [u8; 64]) -> Result<(), DeviceFault>
-    ensures below { RestartingBelow (D.ReadSlots.slots d.old) result (D.ReadSlots.slots d.new) (D.ReadSlots.powered d.new) }
-    ensures wiped { pad.old ≡ blank → pad.new ≡ blank }
-{
-    d.restart()?;
-    if shown_count(d) == 0 {
-        return Ok(());
+    // A write, and what it does below.
+    #[tactic(auto, using(crate::proofs::Runs::steps))]
+    fn write_below(&mut self, index: usize, bytes: &[u8; 64]) -> Result<(), DeviceFault>
+        ensures below { WritingBelow (D.ReadSlots.slots self.old.below) (D.ReadSlots.powered self.old.below) index bytes.now result (D.ReadSlots.slots self.new.below) (D.ReadSlots.powered self.new.below) }
+        ensures wiped { self.old.pad ≡ blank → self.new.pad ≡ blank }
+    {
+        if index >= shown_count(&self.below) {
+            return Err(DeviceFault::NoSuchSlot);
+        }
+        let pending = pending(&self.below)?;
+        self.clear(pending)?;
+        place(&mut self.below, index, bytes)
     }
-    let pending = pending(d)?;
-    clear(d, pad, pending)
+
+    // A restart, and what it does below.
+    fn restart_below(&mut self) -> Result<(), DeviceFault>
+        ensures below { RestartingBelow (D.ReadSlots.slots self.old.below) result (D.ReadSlots.slots self.new.below) (D.ReadSlots.powered self.new.below) }
+        ensures wiped { self.old.pad ≡ blank → self.new.pad ≡ blank }
+    {
+        self.below.restart()?;
+        if shown_count(&self.below) == 0 {
+            return Ok(());
+        }
+        let pending = pending(&self.below)?;
+        self.clear(pending)
+    }
 }
 
 impl<D: TearSlots> WriteSlots for Journal<D> {
-    #[tactic(auto, using(crate::proofs::Wholes::meanings))]
+    #[tactic(auto, using(crate::proofs::Wholes::meanings, crate::proofs::Ends::endings))]
     fn write(&mut self, index: usize, bytes: &[u8; 64]) -> Result<(), DeviceFault>
         ensures meaning { Writing (shown (D.ReadSlots.slots self.old.below)) (D.ReadSlots.powered self.old.below) index bytes.now result (shown (D.ReadSlots.slots self.new.below)) (D.ReadSlots.powered self.new.below) }
         ensures below { WritingBelow (D.ReadSlots.slots self.old.below) (D.ReadSlots.powered self.old.below) index bytes.now result (D.ReadSlots.slots self.new.below) (D.ReadSlots.powered self.new.below) }
@@ -237,11 +215,10 @@ impl<D: TearSlots> WriteSlots for Journal<D> {
         ensures unused { unused_in (D.ReadSlots.slots self.new.below) ≡ unused_in (D.ReadSlots.slots self.old.below) }
         ensures wiped { self.old.pad ≡ blank → self.new.pad ≡ blank }
     {
-        let Journal { below, pad } = self;
-        write_below(below, pad, index, bytes)
+        self.write_below(index, bytes)
     }
 
-    #[tactic(auto, using(crate::proofs::Wholes::meanings))]
+    #[tactic(auto, using(crate::proofs::Wholes::meanings, crate::proofs::Ends::endings))]
     fn restart(&mut self) -> Result<(), DeviceFault>
         ensures meaning { Restarting (shown (D.ReadSlots.slots self.old.below)) result (shown (D.ReadSlots.slots self.new.below)) (D.ReadSlots.powered self.new.below) }
         ensures below { RestartingBelow (D.ReadSlots.slots self.old.below) result (D.ReadSlots.slots self.new.below) (D.ReadSlots.powered self.new.below) }
@@ -249,7 +226,6 @@ impl<D: TearSlots> WriteSlots for Journal<D> {
         ensures unused { unused_in (D.ReadSlots.slots self.new.below) ≡ unused_in (D.ReadSlots.slots self.old.below) }
         ensures wiped { self.old.pad ≡ blank → self.new.pad ≡ blank }
     {
-        let Journal { below, pad } = self;
-        restart_below(below, pad)
+        self.restart_below()
     }
 }

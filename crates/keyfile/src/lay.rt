@@ -1,9 +1,10 @@
 //! A key file laid out by hand: the cover of one spent number.
-use device::WriteSlots;
-use generator::descend_keeping;
+use device::{DeviceFault, WriteSlots};
+use generator::{VALUE_SIZE, Values, descend_keeping};
 use generators::ChaChaGenerator;
 use layout::{Head, NodeFields, encode_head, encode_node};
 use samples::{KEY_NAME, ROOT};
+use tickets::TOP;
 use tree::{LEVELS, Node, ROW};
 
 pub(crate) const SLOTS: usize = 20;
@@ -14,8 +15,6 @@ pub(crate) const FILE: usize = 1280;
 /// The one spent number.
 pub(crate) const SPENT: u32 = 5;
 
-pub(crate) const TOP: Node = Node { depth: 0, first: 0 };
-
 // With one number spent the cover has a node for each level.
 const RECORDS: usize = 16;
 
@@ -24,7 +23,7 @@ fn place(k: usize) -> u16 {
     (k % 17 * 7 % 17 + 1) as u16
 }
 
-fn put_head<D: WriteSlots>(device: &mut D) -> bool {
+fn put_head<D: WriteSlots>(device: &mut D) -> Result<(), DeviceFault> {
     let head = Head {
         first: place(0),
         issued: SPENT + 1,
@@ -34,10 +33,15 @@ fn put_head<D: WriteSlots>(device: &mut D) -> bool {
     };
     let mut slot = [0; 64];
     encode_head(LEVELS, &head, &mut slot);
-    device.write(0, &slot).is_ok()
+    device.write(0, &slot)
 }
 
-fn put_record<D: WriteSlots>(device: &mut D, k: usize, node: &Node, value: &[u8; 32]) -> bool {
+fn put_record<D: WriteSlots>(
+    device: &mut D,
+    k: usize,
+    node: &Node,
+    value: &[u8; 32],
+) -> Result<(), DeviceFault> {
     let fields = NodeFields {
         depth: node.depth,
         first: (node.first % 65536) as u16,
@@ -45,40 +49,18 @@ fn put_record<D: WriteSlots>(device: &mut D, k: usize, node: &Node, value: &[u8;
     };
     let mut slot = [0; 64];
     encode_node(&fields, value, &mut slot);
-    device.write(place(k) as usize, &slot).is_ok()
+    device.write(place(k) as usize, &slot)
 }
 
-// The values of the siblings of the nodes on the way to the spent number; none where there is no such way.
-fn values() -> Option<[u8; 768]> {
-    let mut value = ROOT;
-    let mut left = [0; 32];
-    let mut right = [0; 32];
-    let mut row = [0; 768];
-    let calls = descend_keeping(
-        &ChaChaGenerator,
-        LEVELS,
-        &TOP,
-        SPENT,
-        &mut value,
-        &mut left,
-        &mut right,
-        &mut row,
-    );
-    calls.map(|_| row)
-}
-
-/// Writes the siblings with their values, and the head last. Answers whether all is written.
-pub(crate) fn lay_out<D: WriteSlots + Drop>(mut device: D) -> bool {
-    let mut nodes = [TOP; ROW];
-    let listed = TOP.siblings(LEVELS, SPENT, &mut nodes);
-    let Some(values) = values() else {
-        return false;
-    };
-    let mut done = listed.is_some();
-    for k in 0..RECORDS {
-        let mut value = [0; 32];
-        value.copy_from_slice(&values[32 * k..32 * k + 32]);
-        done = put_record(&mut device, k, &nodes[k], &value) && done;
+/// Writes the siblings with their values, and the head last. None where there are no such siblings, or not all is written.
+pub(crate) fn lay_out<D: WriteSlots>(device: &mut D) -> Option<()> {
+    let nodes = TOP.siblings(LEVELS, SPENT)?;
+    let mut values = Values::new();
+    values.value = ROOT;
+    let mut row = [[0; VALUE_SIZE]; ROW];
+    descend_keeping(&ChaChaGenerator, LEVELS, &TOP, SPENT, &mut values, &mut row)?;
+    for (k, (node, value)) in nodes.as_slice().iter().zip(&row).enumerate() {
+        put_record(device, k, node, value).ok()?;
     }
-    put_head(&mut device) && done
+    put_head(device).ok()
 }

@@ -5,31 +5,33 @@
 mod cases;
 mod lay;
 
+use anyhow::Context;
+use beds::slot_at;
 use cases::{DAMAGED, damaged};
 use chain::{Survey, read_file};
 use device::{ReadSlots, WriteSlots};
 use fault::Halt;
-use generator::descend;
 use generators::ChaChaGenerator;
-use lay::{FILE, SLOTS, SPENT, TOP, lay_out};
+use lay::{FILE, SLOTS, SPENT, lay_out};
+use layout::Numbers;
 use memory::Memory;
 use octets::same_bytes;
+use refusal::Refusal;
 use samples::{ROOT, Show, all_are};
-use serving::record_at;
-use tree::{LEVELS, Node};
+use serving::{PAIR, record_at};
+use tickets::{TOP, key_from};
+use tree::Node;
 
 fn read<D: ReadSlots>(device: &D, generator: u8, asked: Option<u32>) -> Result<Survey, Halt> {
     let mut marks = [0; SLOTS];
-    read_file(device, generator, 1, asked, &mut marks, &mut [0; 64])
+    let numbers = Numbers { generator, ..PAIR };
+    read_file(device, numbers, asked, &mut marks, &mut [0; 64])
 }
 
-// The value in a slot.
-fn value_at<D: ReadSlots>(device: &D, slot: u16) -> [u8; 32] {
-    let mut bytes = [0; 64];
-    let _read = device.read(slot as usize, &mut bytes);
-    let mut value = [0; 32];
-    value.copy_from_slice(&bytes[32..]);
-    value
+// The value in a slot; none where it cannot be read.
+fn value_at<D: ReadSlots>(device: &D, slot: u16) -> Option<[u8; 32]> {
+    let slot = slot_at(device, slot as usize)?;
+    slot.last_chunk::<32>().copied()
 }
 
 fn show_head(show: &mut Show, survey: &Survey) {
@@ -41,60 +43,65 @@ fn show_head(show: &mut Show, survey: &Survey) {
     println!(show; "chain: {} records", survey.length);
 }
 
+// Shows the record in a slot, and answers the slot of the next.
+fn show_record<D: ReadSlots>(show: &mut Show, device: &D, slot: u16) -> Option<u16> {
+    let fields = record_at(device, slot)?;
+    let value = value_at(device, slot)?;
+    let [a, b, c, ..] = value;
+    println!(show;
+        "  slot {slot}: depth {}, first {}, value {a:02x} {b:02x} {c:02x} ..",
+        fields.depth, fields.first
+    );
+    Some(fields.next)
+}
+
 fn show_chain<D: ReadSlots>(show: &mut Show, device: &D, survey: &Survey) {
     let mut slot = survey.head.first;
     for _ in 0..survey.length {
-        if let Some(fields) = record_at(device, slot) {
-            let [a, b, c, ..] = value_at(device, slot);
-            println!(show;
-                "  slot {slot}: depth {}, first {}, value {a:02x} {b:02x} {c:02x} ..",
-                fields.depth, fields.first
-            );
-            slot = fields.next;
-        }
+        let Some(next) = show_record(show, device, slot) else {
+            show.expect(false, "a record of the chain cannot be read");
+            return;
+        };
+        slot = next;
     }
 }
 
 // The key of a number, worked out from a node and its value, and the generator calls made.
-fn key_from(node: &Node, value: &[u8; 32], n: u32) -> ([u8; 32], u32) {
-    let mut key = *value;
-    let mut left = [0; 32];
-    let mut right = [0; 32];
-    let calls = descend(
-        &ChaChaGenerator,
-        LEVELS,
-        node,
-        n,
-        &mut key,
-        &mut left,
-        &mut right,
-    );
-    (key, calls.unwrap_or(0))
+fn key_of(node: &Node, value: &[u8; 32], n: u32) -> anyhow::Result<([u8; 32], u32)> {
+    key_from(&ChaChaGenerator, node, value, n).context("a record does not cover its number")
 }
 
 // Works a number's key out from the record that covers it, and compares it with the key from the root.
-fn show_key<D: ReadSlots>(show: &mut Show, device: &D, n: u32) {
+fn show_key<D: ReadSlots>(show: &mut Show, device: &D, n: u32) -> anyhow::Result<()> {
     let found = read(device, 1, Some(n))
         .ok()
         .and_then(|survey| survey.found);
     let Some(found) = found else {
         println!(show; "number {n}: under no record, so its key cannot be worked out");
         show.expect(n == SPENT, "a number is under no record");
-        return;
+        return Ok(());
     };
     let Node { depth, first } = found.node;
-    let (key, calls) = key_from(&found.node, &value_at(device, found.slot), n);
-    let (from_root, _) = key_from(&TOP, &ROOT, n);
+    let value = value_at(device, found.slot).context("a record cannot be read")?;
+    let (key, calls) = key_of(&found.node, &value, n)?;
+    let (from_root, _) = key_of(&TOP, &ROOT, n)?;
     let same = same_bytes(&key, &from_root);
     let [a, b, ..] = key;
     println!(show;
         "number {n}: under ({depth}, {first}), key {a:02x} {b:02x} .. by {calls} calls, as from the root: {same}"
     );
     show.expect(same, "a key is not the tree's");
+    Ok(())
 }
 
-// Shows a reading that has to be refused with a number at a place.
-fn refused(show: &mut Show, what: &str, answer: Result<Survey, Halt>, number: u8, place: u32) {
+// Shows a reading that has to be refused at a place.
+fn refused(
+    show: &mut Show,
+    what: &str,
+    answer: Result<Survey, Halt>,
+    refusal: Refusal,
+    place: u32,
+) {
     match answer {
         Ok(survey) => {
             println!(show; "{what}: read, {} records", survey.length);
@@ -103,7 +110,7 @@ fn refused(show: &mut Show, what: &str, answer: Result<Survey, Halt>, number: u8
         Err(halt) => {
             let told = halt.refusal.number();
             println!(show; "{what}: refusal {told} at {}", halt.place);
-            let right = told == number && halt.place == place;
+            let right = halt.refusal == refusal && halt.place == place;
             show.expect(right, "a file is refused otherwise than it should be");
         }
     }
@@ -117,44 +124,45 @@ fn refused_sound(show: &mut Show, file: &[u8; FILE]) {
         show,
         "server with generator 2",
         read(&device, 2, None),
-        4,
+        Refusal::BadHead,
         0,
     );
     let mut slot = [7; 64];
-    let few = read_file(&device, 1, 1, None, &mut [7; 19], &mut slot);
-    refused(show, "marks for 19 slots", few, 1, 0);
+    let few = read_file(&device, PAIR, None, &mut [7; 19], &mut slot);
+    refused(show, "marks for 19 slots", few, Refusal::ShortBuffer, 0);
     device.appoint(0, 0);
     let _cut = device.write(19, &[0; 64]);
     let mut marks = [7; SLOTS];
-    let dark = read_file(&device, 1, 1, None, &mut marks, &mut slot);
-    refused(show, "no power", dark, 15, 0);
+    let dark = read_file(&device, PAIR, None, &mut marks, &mut slot);
+    refused(show, "no power", dark, Refusal::NoPower, 0);
     let clean = all_are(&marks, 0) && all_are(&slot, 0);
     println!(show; "the lent buffers are zero: {clean}");
     show.expect(clean, "a lent buffer is not zero");
 }
 
 // Shows the head, the chain and some keys.
-fn show_file<D: ReadSlots>(show: &mut Show, device: &D) {
+fn show_file<D: ReadSlots>(show: &mut Show, device: &D) -> anyhow::Result<()> {
     if let Ok(survey) = read(device, 1, None) {
         show_head(show, &survey);
         show_chain(show, device, &survey);
     }
     for n in [0, 4, SPENT, 6, 65535] {
-        show_key(show, device, n);
+        show_key(show, device, n)?;
     }
+    Ok(())
 }
 
 fn main(rt: HostRuntime) -> anyhow::Result<()> {
     let mut show = Show::new(&rt);
     let mut file = [0; FILE];
-    let done = lay_out(Memory::new(&mut file));
+    let done = lay_out(&mut Memory::new(&mut file)).is_some();
     println!(show; "a file of {SLOTS} slots with number {SPENT} spent, laid out: {done}");
-    show_file(&mut show, &Memory::new(&mut file));
+    show_file(&mut show, &Memory::new(&mut file))?;
     show.println("damaged");
-    for (what, changes, number, place) in DAMAGED {
+    for (what, changes, refusal, place) in DAMAGED {
         let mut bad = damaged(&file, changes);
         let answer = read(&Memory::new(&mut bad), 1, None);
-        refused(&mut show, what, answer, number, place);
+        refused(&mut show, what, answer, refusal, place);
     }
     refused_sound(&mut show, &file);
     show.end()

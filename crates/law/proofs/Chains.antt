@@ -3,16 +3,12 @@ use Rattle.std.proofs.Common.{◌≡◌, ℕ, ◌<◌, ◌⊎◌, List, [], ◌�
 use Rattle.device.specs.Effects.{Slots}
 use Rattle.tree.specs.Cover.{In, Distinct}
 use Rattle.tree.specs.Values.{Valued}
+use Rattle.chain.proofs.Chains.{slot_left}
 use Rattle.chain.specs.Reading.{Link, valued_of, slots_of}
 use Rattle.rules.specs.Files.{entry, record_of}
 use Rattle.law.proofs.Invariant.{Linked}
 
 -- ---- the slots
-pub slot_left : (j : ℕ) (xs ys : List Link) → In j (slots_of xs) → In j (slots_of (xs ++ ys))
-slot_left j [] ys m = absurd m
-slot_left j (x ∷ xs) ys (inl q) = inl q
-slot_left j (x ∷ xs) ys (inr m) = inr (slot_left j xs ys m)
-
 pub slot_right : (j : ℕ) (xs ys : List Link) → In j (slots_of ys) → In j (slots_of (xs ++ ys))
 slot_right j [] ys m = m
 slot_right j (x ∷ xs) ys m = inr (slot_right j xs ys m)

@@ -7,7 +7,7 @@ use Rattle.octets.specs.Buffers.{zeros, filled}
 use Rattle.fault.specs.declared.Halt.{Halt}
 use Rattle.device.specs.Effects.{Slot, Slots}
 use Rattle.session.specs.Records.{is_record}
-use Rattle.layout.specs.Records.{encode_head}
+use Rattle.layout.specs.Records.{encode_head, recounted}
 use Rattle.tree.specs.Nodes.{Covers}
 use Rattle.tree.specs.Cover.{In}
 use Rattle.tree.specs.Values.{key_of}
@@ -16,7 +16,7 @@ use Rattle.rules.specs.Kits.{Kit}
 use Rattle.rules.specs.Tickets.{ticket_of}
 use Rattle.steps.specs.OneStep.{Write}
 use Rattle.steps.specs.Writes.{stood, CutShort}
-use Rattle.rules.specs.Files.{entry, recounted, issue_write}
+use Rattle.rules.specs.Files.{entry, issue_write}
 use Rattle.rules.specs.Calls.{Sound, Outcome, issued_ticket, issue_verdict, Issuing, declined, cut, given}
 use Rattle.rules.specs.Books.{Given, Book, raised, issue, fed}
 use Rattle.rules.specs.Pasts.{Mode, running, cold, mode_after}

@@ -166,7 +166,3 @@ make_holds k d root name s on r t on' lr ln (made f w e p q) =
     let z = w ∙ wrote k d s root name f in
     subst₂ (λ (r : Result (Unit {0}) Halt) (t : Slots). Inv k d root name (mode_of r) t on' fresh_book × Whole t) (sym e) (sym z)
     (begun k d s root name f running on' lr ln (λ i. p), after_whole k d s root name f)
-
-pub make_keeps : (k : Kit) (d : ℕ) (root name : List ℕ) (s : Slots) (on : Bool) (r : Result (Unit {0}) Halt) (t : Slots) (on' : Bool) →
-    length root ≡ value_length → length name ≡ name_length → Making k d s on root name r t on' true → Inv k d root name (mode_of r) t on' fresh_book
-make_keeps k d root name s on r t on' lr ln h = (make_holds k d root name s on r t on' lr ln h).0

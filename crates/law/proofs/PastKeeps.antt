@@ -3,14 +3,14 @@ use Rattle.std.proofs.Common.{◌≡◌, ℕ, ◌+◌, ◌≤◌, Bool, ◌⊎�
 use Rattle.device.specs.Effects.{Slot, Slots}
 use Rattle.fault.specs.declared.Step.TheVariants.{NewRecord}
 use Rattle.layout.specs.declared.Head.{Head}
-use Rattle.layout.specs.Records.{encode_head, encode_node}
+use Rattle.layout.specs.Records.{encode_head, encode_node, relinked, recounted}
 use Rattle.tree.specs.Nodes.{tree_levels}
 use Rattle.tree.specs.Cover.{In}
 use Rattle.tree.proofs.Members.{in_cases}
 use Rattle.chain.specs.Reading.{Link}
 use Rattle.rules.specs.Kits.{Kit}
 use Rattle.steps.specs.OneStep.{Write}
-use Rattle.rules.specs.Files.{entry, last_slot, record_of, relinked, recounted, issue_write, new_writes, join_write, erase_write, redeem_writes}
+use Rattle.rules.specs.Files.{entry, last_slot, record_of, issue_write, new_writes, join_write, erase_write, redeem_writes}
 use Rattle.rules.specs.Calls.{Outcome, new_links, Issuing, Redeeming, Issuing.declined, Issuing.cut, Issuing.given, Redeeming.spent, Redeeming.shut, Redeeming.strange, Redeeming.full, Redeeming.opened}
 use Rattle.rules.specs.Tickets.{number_in}
 use Rattle.rules.specs.Books.{Book}

@@ -12,7 +12,8 @@ use Rattle.chain.specs.Reading.{Link, slots_of}
 use Rattle.rules.specs.Kits.{Kit}
 use Rattle.steps.specs.OneStep.{Write}
 use Rattle.steps.specs.Writes.{stood}
-use Rattle.rules.specs.Files.{holds, is_blank, sweep_from, sweep_writes}
+use Rattle.octets.specs.Buffers.{is_blank}
+use Rattle.rules.specs.Files.{holds, sweep_from, sweep_writes}
 use Rattle.rules.specs.Calls.{Sound, Reopening, declined, stopped, faulty, cut, swept}
 use Rattle.rules.specs.Books.{Book}
 use Rattle.rules.specs.Pasts.{running, cold, mode_of}

@@ -5,7 +5,7 @@ use Rattle.std.proofs.lemmas.List.{length-set, length_push, get_or-set_same, get
 use Rattle.octets.proofs.Fielded.{bytes2}
 use Rattle.device.specs.Effects.{Slot, Slots, blank}
 use Rattle.fault.specs.declared.Step.TheVariants.{NewRecord}
-use Rattle.layout.specs.Records.{encode_head, encode_node}
+use Rattle.layout.specs.Records.{encode_head, encode_node, relinked}
 use Rattle.tree.specs.Cover.{In, Distinct}
 use Rattle.tree.specs.Values.{Valued}
 use Rattle.tree.proofs.Members.{in_cases}
@@ -13,12 +13,13 @@ use Rattle.chain.specs.Reading.{Link, valued_of, slots_of}
 use Rattle.rules.specs.Kits.{Kit}
 use Rattle.steps.specs.OneStep.{Write}
 use Rattle.steps.specs.Writes.{stood}
-use Rattle.rules.specs.Files.{relinked, entry, last_slot, record_of, links_in, new_writes, join_write, erase_write, redeem_writes}
+use Rattle.rules.specs.Files.{entry, last_slot, record_of, links_in, new_writes, join_write, erase_write, redeem_writes}
 use Rattle.law.specs.Law.{RestBlank}
 use Rattle.law.proofs.Invariant.{Linked, head_for, Stands}
 use Rattle.steps.proofs.Plans.{stood_append, length_stood}
 use Rattle.law.proofs.Frames.{stood_other, count_least, count_kept, linked_set, Aside, aside_take, stands_aside}
-use Rattle.law.proofs.Chains.{slot_left, slot_right, slot_cases, apart_left, apart_right, apart_cross, apart_append, entry_append, linked_append, linked_front, linked_back, linked_above, linked_within}
+use Rattle.chain.proofs.Chains.{slot_left}
+use Rattle.law.proofs.Chains.{slot_right, slot_cases, apart_left, apart_right, apart_cross, apart_append, entry_append, linked_append, linked_front, linked_back, linked_above, linked_within}
 
 -- ---- leading on to another index
 pub relink_node : (i j : ℕ) (x : Link) → relinked i (record_of x j) ≡ record_of x i

@@ -2,23 +2,23 @@
 use Rattle.std.proofs.Common.{◌≡◌, ℕ, zero, suc, ◌+◌, ◌^◌, ◌<◌, ◌≤◌, Bool, true, false, cond, eqb, leb, List, [], ◌∷◌, ◌++◌, length, get_or, take, drop, Some, None, sym, refl, ap, ◌∙◌, subst, ⊎_elim, arith}
 use Rattle.std.proofs.lemmas.List.{length-drop, length-take, length-take-le, take_at, drop_at, take_all, take-append-drop, drop-drop, drop_more, get_or-take, get_or-drop, get_or_past}
 use Rattle.std.proofs.lemmas.Bool.{cases_lt, and_parts, eq-eqb, le-leb, eqb-true, leb-true}
-use Rattle.octets.specs.Buffers.{zeros}
+use Rattle.octets.specs.Buffers.{zeros, is_blank}
 use Rattle.octets.specs.Fields.{bytes_of, number_of}
 use Rattle.octets.proofs.Fielded.{length_bytes, number_bytes, bytes_number, number2, number4}
 use Rattle.layout.specs.declared.Head.{Head}
 use Rattle.layout.specs.declared.NodeFields.{NodeFields}
-use Rattle.layout.specs.Records.{part, all_zero, is_head, head_fields, encode_head, head_of, is_record, node_fields, encode_node, node_of, value_of}
+use Rattle.layout.specs.Records.{part, is_head, head_fields, encode_head, head_of, is_record, node_fields, encode_node, node_of, value_of}
 use Rattle.layout.specs.Trips.{IsSlot, HeadFits, HeadTrip, NodeFits, NodeTrip}
 
 -- n zeros pass the test, and what passes it is zeros
-pub zeros_pass : (n : ℕ) → all_zero (zeros n) ≡ true
+pub zeros_pass : (n : ℕ) → is_blank (zeros n) ≡ true
 zeros_pass zero = refl
 zeros_pass (suc n) = zeros_pass n
 
-pub pass_zeros : (bs : List ℕ) → all_zero bs ≡ true → bs ≡ zeros (length bs)
+pub pass_zeros : (bs : List ℕ) → is_blank bs ≡ true → bs ≡ zeros (length bs)
 pass_zeros [] e = refl
 pass_zeros (b ∷ bs) e =
-    let p = and_parts (eqb b 0) (all_zero bs) e in
+    let p = and_parts (eqb b 0) (is_blank bs) e in
     let z : b ≡ 0 = eqb-true b 0 p.0 in
     let r : bs ≡ zeros (length bs) = pass_zeros bs p.1 in
     ap (λ (x : ℕ). x ∷ bs) z ∙ ap (λ (xs : List ℕ). 0 ∷ xs) r
@@ -41,7 +41,7 @@ field at n bs s h = bytes_number n (part at n bs) (part_long at n bs s.long h) (
 cut : (at n : ℕ) (bs : List ℕ) → part at n bs ++ drop (at + n) bs ≡ drop at bs
 cut at n bs = ap (λ (x : List ℕ). part at n bs ++ x) (sym (drop-drop n at bs)) ∙ take-append-drop n (drop at bs)
 
-blank_part : (at n : ℕ) (bs : List ℕ) → length bs ≡ 64 → at + n ≤ 64 → all_zero (part at n bs) ≡ true → part at n bs ≡ zeros n
+blank_part : (at n : ℕ) (bs : List ℕ) → length bs ≡ 64 → at + n ≤ 64 → is_blank (part at n bs) ≡ true → part at n bs ≡ zeros n
 blank_part at n bs e h z = pass_zeros (part at n bs) z ∙ ap zeros (part_long at n bs e h)
 
 head_back : (d : ℕ) (h : Head) → HeadFits d h → head_of d (encode_head d h) ≡ Some h
@@ -62,7 +62,7 @@ head_back d h f =
     let three : take 16 (drop 6 x) ≡ h.name = ap (take 16) d6 ∙ take_at h.name r 16 f.name in
     let four : get_or x 22 0 ≡ h.generator = sym (get_or-drop 22 x 0 0) ∙ ap (λ (y : List ℕ). get_or y 0 0) d22 in
     let five : get_or x 23 0 ≡ h.sealer = sym (get_or-drop 22 x 1 0) ∙ ap (λ (y : List ℕ). get_or y 1 0) d22 in
-    let blank : all_zero (take 36 (drop 24 x)) ≡ true = ap (λ (y : List ℕ). all_zero (take 36 y)) d24 in
+    let blank : is_blank (take 36 (drop 24 x)) ≡ true = ap (λ (y : List ℕ). is_blank (take 36 y)) d24 in
     let same : eqb d d ≡ true = eq-eqb d d refl in
     let few : leb h.issued (2 ^ d) ≡ true = le-leb h.issued (2 ^ d) f.issued in
     rw (same, blank, two, few, one, three, four, five)
@@ -79,8 +79,8 @@ unfolding encode_head
 head_whole d bs s t =
     let p = and_parts (eqb (get_or bs 0 0) 1) _ t in
     let q = and_parts (eqb (get_or bs 1 0) d) _ p.1 in
-    let u = and_parts (all_zero (part 2 2 bs)) _ q.1 in
-    let v = and_parts (all_zero (part 28 36 bs)) _ u.1 in
+    let u = and_parts (is_blank (part 2 2 bs)) _ q.1 in
+    let v = and_parts (is_blank (part 28 36 bs)) _ u.1 in
     let b0 : get_or bs 0 0 ≡ 1 = eqb-true _ _ p.0 in
     let b1 : get_or bs 1 0 ≡ d = eqb-true _ _ q.0 in
     let long : length bs ≡ 64 = s.long in
@@ -134,7 +134,7 @@ node_whole : (d : ℕ) (bs : List ℕ) → IsSlot bs → is_record d bs ≡ true
 unfolding encode_node value_of
 node_whole d bs s t =
     let p = and_parts (eqb (get_or bs 0 0) 2) _ t in
-    let q = and_parts (all_zero (part 6 26 bs)) _ p.1 in
+    let q = and_parts (is_blank (part 6 26 bs)) _ p.1 in
     let b0 : get_or bs 0 0 ≡ 2 = eqb-true _ _ p.0 in
     let long : length bs ≡ 64 = s.long in
     let z6 : part 6 26 bs ≡ zeros 26 = blank_part 6 26 bs long (omega arith) q.0 in

@@ -1,17 +1,14 @@
 -- The head and the node records of a key file, byte by byte, for a tree of d levels.
-use Rattle.std.specs.Prelude.{ℕ, ◌-◌, ◌%◌, ◌^◌, Bool, true, cond, ◌&&◌, List, [], ◌∷◌, ◌++◌, take, drop, Some, None, Option, ◌==◌, nat_le, nat_lt, slice_index}
-use Rattle.octets.specs.Buffers.{zeros}
+use Rattle.std.specs.Prelude.{ℕ, ◌-◌, ◌%◌, ◌^◌, Bool, cond, ◌&&◌, List, ◌∷◌, ◌++◌, take, drop, Some, None, Option, ◌==◌, nat_le, nat_lt, slice_index}
+use Rattle.octets.specs.Buffers.{zeros, is_blank}
 use Rattle.octets.specs.Fields.{bytes_of, number_of}
 use Rattle.layout.specs.declared.Head.{Head}
 use Rattle.layout.specs.declared.NodeFields.{NodeFields}
+use Rattle.layout.specs.declared.Numbers.{Numbers}
 
 -- the n bytes from a place on
 abbrev pub part : ℕ → ℕ → List ℕ → List ℕ
 part at n bs = take n (drop at bs)
-
-abbrev pub all_zero : List ℕ → Bool
-all_zero [] = true
-all_zero (b ∷ bs) = b == 0 && all_zero bs
 
 -- ---- the head, field by field: 1 and the levels (a byte each), two zeros, the first index (2 bytes), how many numbers
 -- are issued (4), the key name (16), the generator's number and the sealer's (a byte each), and zeros
@@ -28,9 +25,13 @@ head_fields bs = record {
   sealer = slice_index bs 27;
 }
 
+-- the numbers that a head names
+abbrev pub numbers_of : Head → Numbers
+numbers_of h = record { generator = h.generator; sealer = h.sealer }
+
 -- laid out as a head: the first two bytes, the zeros, and no more numbers issued than the tree has
 abbrev pub is_head : ℕ → List ℕ → Bool
-is_head d bs = slice_index bs 0 == 1 && (slice_index bs 1 == d && (all_zero (part 2 2 bs) && (all_zero (part 28 36 bs) && nat_le (number_of (part 6 4 bs)) (2 ^ d))))
+is_head d bs = slice_index bs 0 == 1 && (slice_index bs 1 == d && (is_blank (part 2 2 bs) && (is_blank (part 28 36 bs) && nat_le (number_of (part 6 4 bs)) (2 ^ d))))
 
 -- the head that 64 bytes are
 unfoldable pub head_of : ℕ → List ℕ → Option Head
@@ -54,8 +55,17 @@ is_node d e p = nat_le e d && (nat_lt p (2 ^ d) && p % 2 ^ (d - e) == 0)
 
 -- laid out as a node of the tree
 abbrev pub is_record : ℕ → List ℕ → Bool
-is_record d bs = slice_index bs 0 == 2 && (all_zero (part 6 26 bs) && is_node d (slice_index bs 1) (number_of (part 2 2 bs)))
+is_record d bs = slice_index bs 0 == 2 && (is_blank (part 6 26 bs) && is_node d (slice_index bs 1) (number_of (part 2 2 bs)))
 
 -- the node that 64 bytes are
 unfoldable pub node_of : ℕ → List ℕ → Option NodeFields
 node_of d bs = cond (is_record d bs) (Some (node_fields bs)) None
+
+-- ---- writing over a part of a slot
+-- the same slot leading on to the index i: the head's first index and a record's next index are its bytes 4 and 5
+abbrev pub relinked : ℕ → List ℕ → List ℕ
+relinked i bs = take 4 bs ++ (bytes_of 2 i ++ drop 6 bs)
+
+-- the same head with n numbers issued, in its bytes 6 to 9
+abbrev pub recounted : ℕ → List ℕ → List ℕ
+recounted n bs = take 6 bs ++ (bytes_of 4 n ++ drop 10 bs)

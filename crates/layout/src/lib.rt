@@ -4,21 +4,46 @@
 //! material and stays where it lies, in the last 32 bytes of its slot.
 #![tactic(auto)]
 
-ghost use Rattle.std.specs.Prelude.{◌≡◌, ℕ, ◌<◌, ◌≤◌, length};
-ghost use Rattle.layout.specs.Records.{all_zero, is_node, encode_head, head_of, encode_node, node_of};
+ghost use Rattle.std.specs.Prelude.{◌≡◌, ℕ, ◌%◌, ◌^◌, ◌==◌, nat_le};
+ghost use Rattle.layout.specs.Records.{is_node, encode_head, is_head, head_of, numbers_of, encode_node, is_record, node_of, value_of, relinked, recounted};
 ghost use Rattle.layout.specs.Trips.{HeadTrip, NodeTrip};
 
-use octets::{clear, get_u16, get_u32, put_u16, put_u32};
+use octets::{get, is_blank, put};
 
 // The first byte of each record.
 const HEAD: u8 = 1;
 
 const NODE: u8 = 2;
 
+// Where the slot of the next record stands: in a head that of the chain's first.
+const LINK_AT: usize = 4;
+
+// Where the fields of a head stand.
+const ISSUED_AT: usize = 6;
+
+const NAME_AT: usize = 10;
+
+const GENERATOR_AT: usize = 26;
+
+const SEALER_AT: usize = 27;
+
+// Where the first number and the value of a node stand.
+const FIRST_AT: usize = 2;
+
+const VALUE_AT: usize = 32;
+
+/// The generator's number and the sealer's, as a key file names them.
+#[derive(Clone, Copy, PartialEq, Eq)]
+pub struct Numbers {
+    pub generator: u8,
+    pub sealer: u8,
+}
+
 /// What the head of a key file says.
 #[derive(Clone, Copy)]
 pub struct Head {
     /// the slot of the chain's first record, 0 for none
+    // no Option: `Some(0)` would have no bytes of its own, and not every head would be read back as it was laid out
     pub first: u16,
     /// how many numbers are issued
     pub issued: u32,
@@ -30,6 +55,18 @@ pub struct Head {
     pub sealer: u8,
 }
 
+impl Head {
+    /// The numbers that the head names.
+    pub fn numbers(&self) -> Numbers
+        ensures { result ≡ numbers_of self.now }
+    {
+        Numbers {
+            generator: self.generator,
+            sealer: self.sealer,
+        }
+    }
+}
+
 /// What a record of the chain says of its node, beside the value.
 #[derive(Clone, Copy)]
 pub struct NodeFields {
@@ -37,104 +74,139 @@ pub struct NodeFields {
     /// the first number that the node covers
     pub first: u16,
     /// the slot of the next record, 0 for none
+    // no Option: as in a head, `Some(0)` would not be read back
     pub next: u16,
 }
 
 /// Lays the head out in a slot.
+#[tactic(auto, using(crate::proofs::Trips::head_trip), unfolding(crate::specs::Records::encode_head, octets::specs::Fields::bytes_of))]
 pub fn encode_head(levels: u8, head: &Head, slot: &mut [u8; 64])
     ensures is { slot.new ≡ encode_head levels head.now }
     ensures trip { HeadTrip }
 {
-    clear(slot);
+    *slot = [0; 64];
     slot[0] = HEAD;
     slot[1] = levels;
-    put_u16(slot, 4, head.first);
-    put_u32(slot, 6, head.issued);
-    slot[26] = head.generator;
-    slot[27] = head.sealer;
-    slot[10..26].copy_from_slice(&head.name);
+    put(slot, LINK_AT, head.first);
+    put(slot, ISSUED_AT, head.issued);
+    slot[GENERATOR_AT] = head.generator;
+    slot[SEALER_AT] = head.sealer;
+    slot[NAME_AT..GENERATOR_AT].copy_from_slice(&head.name);
 }
 
 /// The head that a slot holds, if it is laid out as one.
+#[tactic(auto, using(crate::proofs::Trips::head_trip), unfolding(crate::specs::Records::head_of))]
 pub fn decode_head(levels: u8, slot: &[u8; 64]) -> Option<Head>
     ensures is { result ≡ head_of levels slot.now }
     ensures trip { HeadTrip }
 {
-    if slot[0] != HEAD || slot[1] != levels {
-        return None;
-    }
-    if !is_blank(&slot[2..4]) || !is_blank(&slot[28..64]) {
-        return None;
-    }
-    let issued = get_u32(slot, 6);
-    if issued as u64 > 1u64 << levels.min(32) {
+    if !is_head(levels, slot) {
         return None;
     }
     let mut name = [0; 16];
-    name.copy_from_slice(&slot[10..26]);
+    name.copy_from_slice(&slot[NAME_AT..GENERATOR_AT]);
     Some(Head {
-        first: get_u16(slot, 4),
-        issued,
+        first: get(slot, LINK_AT),
+        issued: get(slot, ISSUED_AT),
         name,
-        generator: slot[26],
-        sealer: slot[27],
+        generator: slot[GENERATOR_AT],
+        sealer: slot[SEALER_AT],
     })
 }
 
+// Whether a slot is laid out as the head of a tree of `levels` levels.
+fn is_head(levels: u8, slot: &[u8; 64]) -> bool
+    ensures { result ≡ is_head levels slot.now }
+{
+    slot[0] == HEAD
+        && slot[1] == levels
+        && is_blank(&slot[2..LINK_AT])
+        && is_blank(&slot[SEALER_AT + 1..64])
+        && has_numbers(levels, get(slot, ISSUED_AT))
+}
+
+// Whether a tree of `levels` levels has so many numbers.
+fn has_numbers(levels: u8, count: u32) -> bool
+    ensures { result ≡ nat_le count (2 ^ levels) }
+{
+    // a count has 32 bits: no need to tell apart greater powers of two
+    u64::from(count) <= 1 << levels.min(32)
+}
+
 /// Lays a node out in a slot.
+#[tactic(auto, using(crate::proofs::Trips::node_trip, crate::proofs::Laid::nothing_after), unfolding(crate::specs::Records::encode_node, octets::specs::Fields::bytes_of))]
 pub fn encode_node(node: &NodeFields, value: &[u8; 32], slot: &mut [u8; 64])
     ensures is { slot.new ≡ encode_node node.now value.now }
     ensures trip { NodeTrip }
 {
-    clear(slot);
+    *slot = [0; 64];
     slot[0] = NODE;
     slot[1] = node.depth;
-    put_u16(slot, 2, node.first);
-    put_u16(slot, 4, node.next);
-    slot[32..64].copy_from_slice(value);
+    put(slot, FIRST_AT, node.first);
+    put(slot, LINK_AT, node.next);
+    slot[VALUE_AT..64].copy_from_slice(value);
 }
 
 /// The node that a slot holds, if it is laid out as one of a tree of `levels` levels.
+#[tactic(auto, using(crate::proofs::Trips::node_trip), unfolding(crate::specs::Records::node_of))]
 pub fn decode_node(levels: u8, slot: &[u8; 64]) -> Option<NodeFields>
     ensures is { result ≡ node_of levels slot.now }
     ensures trip { NodeTrip }
 {
-    if slot[0] != NODE || !is_blank(&slot[6..32]) {
-        return None;
-    }
-    let depth = slot[1];
-    let first = get_u16(slot, 2);
-    if !begins_node(levels, depth, first) {
-        return None;
-    }
-    Some(NodeFields {
-        depth,
-        first,
-        next: get_u16(slot, 4),
+    is_record(levels, slot).then_some(NodeFields {
+        depth: slot[1],
+        first: get(slot, FIRST_AT),
+        next: get(slot, LINK_AT),
     })
 }
 
-// Whether a tree of `levels` levels has a node of this depth that begins at this number.
-fn begins_node(levels: u8, depth: u8, first: u16) -> bool
-    ensures { result ≡ is_node levels depth first }
+// Whether a slot is laid out as a node of a tree of `levels` levels.
+fn is_record(levels: u8, slot: &[u8; 64]) -> bool
+    ensures { result ≡ is_record levels slot.now }
 {
-    if depth > levels {
-        return false;
-    }
-    // a first number has 16 bits: no need to tell apart greater powers of two
-    let whole = 1u32 << levels.min(16);
-    let width = 1u32 << (levels - depth).min(16);
-    (first as u32) < whole && first as u32 % width == 0
+    slot[0] == NODE
+        && is_blank(&slot[LINK_AT + 2..VALUE_AT])
+        && is_node(levels, slot[1], get(slot, FIRST_AT))
 }
 
-// Whether every byte is zero.
-fn is_blank(bytes: &[u8]) -> bool
-    ensures { result ≡ all_zero bytes.now }
+// Whether a tree of `levels` levels has a node of this depth that begins at this number.
+#[tactic(auto, using(crate::proofs::Powers::next_within))]
+fn is_node(levels: u8, depth: u8, first: u16) -> bool
+    ensures { result ≡ is_node levels depth first }
 {
-    for b in bytes {
-        if *b != 0 {
-            return false;
-        }
-    }
-    true
+    depth <= levels
+        && has_numbers(levels, u32::from(first) + 1)
+        && is_multiple(first, levels - depth)
+}
+
+// Whether a number is a multiple of 2 to this power.
+fn is_multiple(number: u16, power: u8) -> bool
+    ensures { result ≡ (number % 2 ^ power == 0) }
+{
+    // a number has 16 bits: no need to tell apart greater powers of two
+    u32::from(number) % (1 << power.min(16)) == 0
+}
+
+/// Copies the value out of a node's slot.
+#[tactic(auto, using(crate::proofs::Laid::value_whole), unfolding(crate::specs::Records::value_of))]
+pub fn copy_value(slot: &[u8; 64], value: &mut [u8; 32])
+    ensures { value.new ≡ value_of slot.now }
+{
+    value.copy_from_slice(&slot[VALUE_AT..64]);
+}
+
+/// Lets the head or the record in a slot lead on to the slot `next`.
+#[tactic(auto, using(std::proofs::Common::append_assoc), unfolding(octets::specs::Fields::bytes_of))]
+pub fn relink(slot: &mut [u8; 64], next: u16)
+    ensures { slot.new ≡ relinked next slot.old }
+{
+    put(slot, LINK_AT, next);
+}
+
+/// Puts another count of issued numbers into the head in a slot.
+#[tactic(auto, using(std::proofs::Common::append_assoc), unfolding(octets::specs::Fields::bytes_of))]
+pub fn recount(slot: &mut [u8; 64], issued: u32)
+    ensures { slot.new ≡ recounted issued slot.old }
+{
+    put(slot, ISSUED_AT, issued);
 }

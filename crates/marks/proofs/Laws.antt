@@ -1,9 +1,11 @@
 -- The laws of marks, and one step along the slots without a mark.
-use Rattle.std.proofs.Common.{◌≡◌, ℕ, suc, ◌+◌, ◌-◌, ◌<◌, ◌≤◌, true, false, not, eqb, List, [], length, get_or, sym, ap, subst, ⊎_elim, add-one, arith}
+use Rattle.std.proofs.Common.{◌≡◌, ℕ, zero, suc, ◌+◌, ◌<◌, ◌≤◌, Bool, true, false, not, cond, eqb, Some, None, Option, List, [], ◌∷◌, ◌∙◌, length, get_or, sym, refl, ap, subst, ⊎_elim, add-one, arith}
+use Rattle.std.specs.List.{filter, find, range_with_len}
+use Rattle.std.specs.Option.{option_map}
 use Rattle.std.proofs.lemmas.List.{get_or-replicate, get_or_past, get_or-set_same, get_or-set_other, length-set, length-replicate}
 use Rattle.std.proofs.lemmas.Bool.{cases_lt}
 use Rattle.octets.specs.Buffers.{zeros}
-use Rattle.marks.specs.Rows.{room_of, is_marked, with_mark, MarkLaws, listed, unmarked}
+use Rattle.marks.specs.Rows.{room_of, is_marked, with_mark, MarkLaws, listed, unmarked, first_of}
 
 zero_at : (n i : ℕ) → get_or (zeros n) i 0 ≡ 0
 zero_at n i = ⊎_elim
@@ -30,11 +32,25 @@ as_long row i = length-set row i 1
 pub mark_laws : MarkLaws
 mark_laws = record { none = none_marked; same = same_marked; other = other_marked; long = as_long }
 
--- one slot further
-pub unmarked_more : (row : List ℕ) (i end : ℕ) → i < end → unmarked row i (end - i) ≡ listed (is_marked row i) i (unmarked row (i + 1) (end - (i + 1)))
-unmarked_more row i end h =
-    let k : end - i ≡ suc (end - (i + 1)) = omega arith in
-    rw (k, ← add-one i)
+-- the slots without a mark are those that a filter leaves
+pub filtered : (row : List ℕ) (i n : ℕ) → filter (λ k. not (is_marked row k)) (range_with_len i n) ≡ unmarked row i n
+filtered row i zero = refl
+filtered row i (suc n) = elim (is_marked row i) as (λ b. cond (not b) (i ∷ filter (λ k. not (is_marked row k)) (range_with_len (i + 1) n)) (filter (λ k. not (is_marked row k)) (range_with_len (i + 1) n)) ≡ listed b i (unmarked row (suc i) n)) [
+  | true ↦ rw (← add-one i) (filtered row (i + 1) n)
+  | false ↦ rw (← add-one i) (ap (λ us. i ∷ us) (filtered row (i + 1) n))
+]
 
-pub unmarked_none : (row : List ℕ) (i end : ℕ) → end ≤ i → unmarked row i (end - i) ≡ []
-unmarked_none row i end h = let k : end - i ≡ 0 = omega arith in rw k
+first_filtered : (p : ℕ → Bool) (is : List ℕ) → find p is ≡ first_of (filter p is)
+first_filtered p [] = refl
+first_filtered p (i ∷ is) = elim (p i) as (λ b. cond b (Some i) (find p is) ≡ first_of (cond b (i ∷ filter p is) (filter p is))) [
+  | true ↦ refl
+  | false ↦ first_filtered p is
+]
+
+-- what a search along them finds
+pub first_found : (row : List ℕ) (i n : ℕ) → find (λ k. not (is_marked row k)) (range_with_len i n) ≡ first_of (unmarked row i n)
+first_found row i n = first_filtered (λ k. not (is_marked row k)) (range_with_len i n) ∙ ap first_of (filtered row i n)
+
+pub as_it_is : (o : Option ℕ) → option_map (λ x. x) o ≡ o
+as_it_is None = refl
+as_it_is (Some x) = refl

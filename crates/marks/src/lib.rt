@@ -5,6 +5,7 @@ ghost use Rattle.std.specs.Prelude.{◌≡◌, ℕ, ◌-◌, length};
 ghost use Rattle.marks.specs.Rows.{room_of, is_marked, with_mark, unmarked, first_of, MarkLaws};
 
 /// How many bytes the marks of so many slots take.
+#[tactic(auto, unfolding(crate::specs::Rows::room_of))]
 pub fn room(slots: usize) -> usize
     ensures { result ≡ room_of slots }
 {
@@ -12,6 +13,7 @@ pub fn room(slots: usize) -> usize
 }
 
 /// Marks a slot. A slot that the row has no room for stays as it is.
+#[tactic(auto, using(crate::proofs::Laws::mark_laws), unfolding(crate::specs::Rows::with_mark))]
 pub fn mark(row: &mut [u8], slot: usize)
     ensures is { row.new ≡ with_mark row.old slot }
     ensures laws { MarkLaws }
@@ -22,6 +24,7 @@ pub fn mark(row: &mut [u8], slot: usize)
 }
 
 /// Whether a slot is marked.
+#[tactic(auto, using(crate::proofs::Laws::mark_laws), unfolding(crate::specs::Rows::is_marked))]
 pub fn is_marked(row: &[u8], slot: usize) -> bool
     ensures is { result ≡ is_marked row.now slot }
     ensures laws { MarkLaws }
@@ -33,27 +36,12 @@ pub fn is_marked(row: &[u8], slot: usize) -> bool
 pub fn first_unmarked(row: &[u8], from: usize, end: usize) -> Option<usize>
     ensures { result ≡ first_of (unmarked row.now from (end - from)) }
 {
-    let mut slot = from;
-    while slot < end {
-        if !is_marked(row, slot) {
-            return Some(slot);
-        }
-        slot += 1;
-    }
-    None
+    (from..end).find(|slot| !is_marked(row, *slot))
 }
 
 /// How many slots have no mark, from a slot on and before an end.
 pub fn count_unmarked(row: &[u8], from: usize, end: usize) -> usize
     ensures { result ≡ length (unmarked row.now from (end - from)) }
 {
-    let mut slot = from;
-    let mut free = 0;
-    while slot < end {
-        if !is_marked(row, slot) {
-            free += 1;
-        }
-        slot += 1;
-    }
-    free
+    (from..end).filter(|slot| !is_marked(row, *slot)).count()
 }

@@ -104,16 +104,12 @@ whole w n row f i b h l =
 pub paste_none : (row : List ℕ) (at : ℕ) (b : List ℕ) → paste row at b 0 ≡ row
 paste_none row at b = sym (paste-zero row at b)
 
--- what a write of the first m bytes of b to `row[at..at + m]` leaves, and of all of them
-pub put_part : (at k m : ℕ) (row b : List ℕ) → k ≡ m → put_mid at k row (take m b) ≡ paste row at b m
-put_part at k m row b f =
-    ap (λ n. put_mid at n row (take m b)) f
-    ∙ ap (λ t. take at row ++ (take m b ++ t)) (drop-drop m at row)
-    ∙ sym (append_assoc (take at row) (take m b) (drop (at + m) row))
-
-pub put_all : (at k w : ℕ) (row b : List ℕ) → k ≡ w → length b ≡ w → put_mid at k row b ≡ paste row at b w
-put_all at k w row b f l = ap (put_mid at k row) (sym (take_all w b (omega arith))) ∙ put_part at k w row b f
+-- what a write of b to `row[at..at + k]` leaves
+pub put_whole : (at k : ℕ) (row b : List ℕ) → k ≡ length b → put_mid at k row b ≡ paste row at b (length b)
+put_whole at k row b f =
+    ap (λ n. put_mid at n row b) f
+    ∙ ap (λ t. take at row ++ (b ++ t)) (drop-drop (length b) at row)
+    ∙ ap (λ t. take at row ++ (t ++ drop (at + length b) row)) (sym (take_all (length b) b (omega arith)))
+    ∙ sym (append_assoc (take at row) (take (length b) b) (drop (at + length b) row))
 
 pub ruleset slots = (many, place)
-
-pub ruleset pasting = (many, put_part, put_all, paste_none)

@@ -1,9 +1,13 @@
 -- A power cut by appointment: `after` more writes are done, and the next one is cut with `standing` bytes in place.
-use Rattle.std.specs.Prelude.{◌≡◌, ℕ, zero, suc, ◌*◌, ◌<◌, min, Bool, true, false, ◌⊎◌, List, length, Some, None, Ok, Err, Option}
+use Rattle.std.specs.Prelude.{◌≡◌, ℕ, zero, suc, ◌*◌, ◌<◌, min, Bool, true, false, ◌⊎◌, List, length, Some, None, Ok, Err, Option, Result}
 use Rattle.std.proofs.Math.Seq.{paste}
+use Rattle.device.specs.declared.DeviceFault.{DeviceFault}
 use Rattle.device.specs.declared.DeviceFault.TheVariants.{NoPower}
 use Rattle.device.specs.Effects.{Slot, Slots, Answer, Declined, slot_size}
 use Rattle.medium.specs.declared.Cut.{Cut}
+use Rattle.medium.specs.declared.Stroke.{Stroke}
+use Rattle.medium.specs.Rows.{slots_in}
+use Rattle.medium.specs.State.{State}
 
 -- the bytes that stand, where the very next write is to be cut
 abbrev pub due_in : ℕ → ℕ → Option ℕ
@@ -23,20 +27,42 @@ abbrev pub later : Option Cut → Option Cut
 later None = None
 later (Some c) = later_in c.after c.standing
 
+-- appointing, in the place of an earlier appointment
+abbrev pub appointed : ℕ → ℕ → State → State
+appointed after standing d = record { row = d.row; power = d.power; cut = Some (record { after = after; standing = standing }) }
+
+-- what a write meets that is not declined: all of its bytes stand and it is done, or m of them where it is cut
+abbrev pub stroke_of : Option ℕ → Stroke
+stroke_of None = record { standing = slot_size; answer = Ok tt }
+stroke_of (Some m) = record { standing = m; answer = Err NoPower }
+
+-- and what that leaves of power and appointment
+abbrev pub on_after : Option ℕ → Bool
+on_after None = true
+on_after (Some m) = false
+
+abbrev pub counted : State → State
+counted d = record { row = d.row; power = on_after (due d.cut); cut = later d.cut }
+
+-- a write to slot i of n, before its bytes are put in place
+abbrev pub Counting : ℕ → State → ℕ → Result Stroke DeviceFault → State → Type 0
+Counting n d i (Ok s) d' = (i < n) × (d.power ≡ true) × (s ≡ stroke_of (due d.cut)) × (d' ≡ counted d)
+Counting n d i (Err e) d' = Declined (slots_in slot_size n d.row) d.power i e × (d' ≡ d)
+
 -- how many bytes stand on a device that tears: as many as were appointed, and at most the slot's
 abbrev pub partly : ℕ → ℕ
 partly m = min m slot_size
 
--- A write of b to slot i on a device that cuts only by appointment, exactly: the row of bytes that it lies over, its power and its
--- appointment c, before and after; stand tells how many bytes of a cut write are in place.
+-- A write of b to slot i on a device that cuts only by appointment, exactly, from the state d to d': slots tells which slots its row
+-- holds, and stand how many bytes of a cut write are in place.
 -- Done: no cut was due. Declined: nothing changes. Cut: one was due. No byte outside the slot changes in any case.
-abbrev pub Struck : (ℕ → ℕ) → Slots → List ℕ → Bool → Option Cut → ℕ → Slot → Answer → List ℕ → Bool → Option Cut → Type 0
-Struck stand s row on c i b (Ok _) row' on' c' =
-    (i < length s) × (on ≡ true) × (due c ≡ None) × (row' ≡ paste row (i * slot_size) b slot_size) × (on' ≡ true) × (c' ≡ later c)
-Struck stand s row on c i b (Err e) row' on' c' =
-    (Declined s on i e × (row' ≡ row) × (on' ≡ on) × (c' ≡ c))
-    ⊎ ((e ≡ NoPower) × (i < length s) × (on ≡ true) × ((m : ℕ) × (due c ≡ Some m) × (row' ≡ paste row (i * slot_size) b (stand m))) × (on' ≡ false) × (c' ≡ later c))
+abbrev pub Struck : (ℕ → ℕ) → (List ℕ → Slots) → State → ℕ → Slot → Answer → State → Type 0
+Struck stand slots d i b (Ok _) d' =
+    (i < length (slots d.row)) × (d.power ≡ true) × (due d.cut ≡ None) × (d'.row ≡ paste d.row (i * slot_size) b slot_size) × (d'.power ≡ true) × (d'.cut ≡ later d.cut)
+Struck stand slots d i b (Err e) d' =
+    (Declined (slots d.row) d.power i e × (d' ≡ d))
+    ⊎ ((e ≡ NoPower) × (i < length (slots d.row)) × (d.power ≡ true) × ((m : ℕ) × (due d.cut ≡ Some m) × (d'.row ≡ paste d.row (i * slot_size) b (stand m))) × (d'.power ≡ false) × (d'.cut ≡ later d.cut))
 
 -- A restart on such a device: always done; row and appointment stay.
-abbrev pub Restarted : List ℕ → Option Cut → Answer → List ℕ → Bool → Option Cut → Type 0
-Restarted row c r row' on' c' = (r ≡ Ok tt) × (row' ≡ row) × (on' ≡ true) × (c' ≡ c)
+abbrev pub Restarted : State → Answer → State → Type 0
+Restarted d r d' = (r ≡ Ok tt) × (d'.row ≡ d.row) × (d'.power ≡ true) × (d'.cut ≡ d.cut)

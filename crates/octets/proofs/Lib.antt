@@ -1,3 +1,4 @@
 pub mod Fielded
 pub mod Unseen
 pub mod Small
+pub mod Compared

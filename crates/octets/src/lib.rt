@@ -4,92 +4,114 @@
 ghost use Rattle.std.specs.Prelude.{◌≡◌, ℕ, ◌+◌, ◌≤◌, List, [], ◌++◌, length, take, drop, replicate, Decides};
 ghost use Rattle.std.specs.Borrow.{ftrue};
 ghost use Rattle.octets.specs.Fields.{bytes_of, number_of, FieldLaws};
-ghost use Rattle.octets.specs.Buffers.{zeros, pasted};
+ghost use Rattle.octets.specs.Buffers.{zeros, pasted, is_blank, differing};
+ghost use Rattle.std.specs.List.{fold, zip};
 
 use std::marker::Model;
 
-/// Writes a number of 2 bytes at a place.
-pub fn put_u16(b: &mut [u8], at: usize, v: u16)
-    requires { at + 2 ≤ length b.old }
-    ensures { b.new ≡ pasted b.old at (bytes_of 2 v) 2 }
-{
-    b[at..at + 2].copy_from_slice(&v.to_be_bytes());
+/// A number that stands in `N` bytes, the highest first.
+pub trait Field<const N: usize>: Copy {
+    /// The number.
+    ghost value: { Self → ℕ };
+
+    /// Its bytes.
+    fn to_bytes(self) -> [u8; N]
+        ensures { result ≡ bytes_of N (value self) };
+
+    /// The number that bytes write.
+    fn from_bytes(bytes: &[u8; N]) -> Self
+        ensures { value result ≡ number_of bytes.now };
 }
 
-/// Writes a number of 4 bytes at a place.
-pub fn put_u32(b: &mut [u8], at: usize, v: u32)
-    requires { at + 4 ≤ length b.old }
-    ensures { b.new ≡ pasted b.old at (bytes_of 4 v) 4 }
-{
-    b[at..at + 4].copy_from_slice(&v.to_be_bytes());
+#[tactic(auto, using(crate::proofs::Fielded::bytes2, crate::proofs::Fielded::number2))]
+impl Field<2> for u16 {
+    ghost value = { λ v. v };
+
+    fn to_bytes(self) -> [u8; 2] {
+        self.to_be_bytes()
+    }
+
+    fn from_bytes(bytes: &[u8; 2]) -> u16 {
+        u16::from_be_bytes(*bytes)
+    }
 }
 
-/// Writes a number of 8 bytes at a place.
-pub fn put_u64(b: &mut [u8], at: usize, v: u64)
-    requires { at + 8 ≤ length b.old }
-    ensures { b.new ≡ pasted b.old at (bytes_of 8 v) 8 }
-{
-    b[at..at + 8].copy_from_slice(&v.to_be_bytes());
+#[tactic(auto, using(crate::proofs::Fielded::bytes4, crate::proofs::Fielded::number4))]
+impl Field<4> for u32 {
+    ghost value = { λ v. v };
+
+    fn to_bytes(self) -> [u8; 4] {
+        self.to_be_bytes()
+    }
+
+    fn from_bytes(bytes: &[u8; 4]) -> u32 {
+        u32::from_be_bytes(*bytes)
+    }
 }
 
-/// The number of 2 bytes at a place.
-pub fn get_u16(b: &[u8], at: usize) -> u16
-    requires { at + 2 ≤ length b.now }
-    ensures { result ≡ number_of (take 2 (drop at b.now)) }
-{
-    let mut w = [0; 2];
-    w.copy_from_slice(&b[at..at + 2]);
-    u16::from_be_bytes(w)
+#[tactic(auto, using(crate::proofs::Fielded::bytes8, crate::proofs::Fielded::number8))]
+impl Field<8> for u64 {
+    ghost value = { λ v. v };
+
+    fn to_bytes(self) -> [u8; 8] {
+        self.to_be_bytes()
+    }
+
+    fn from_bytes(bytes: &[u8; 8]) -> u64 {
+        u64::from_be_bytes(*bytes)
+    }
 }
 
-/// The number of 4 bytes at a place.
-pub fn get_u32(b: &[u8], at: usize) -> u32
-    requires { at + 4 ≤ length b.now }
-    ensures { result ≡ number_of (take 4 (drop at b.now)) }
+/// Writes a number at a place, in as many bytes as its type has.
+pub fn put<const N: usize, T: Field<N>>(b: &mut [u8], at: usize, v: T)
+    requires { at + N ≤ length b.old }
+    ensures { b.new ≡ pasted b.old at (bytes_of N (T.value v)) N }
 {
-    let mut w = [0; 4];
-    w.copy_from_slice(&b[at..at + 4]);
-    u32::from_be_bytes(w)
+    b[at..at + N].copy_from_slice(&v.to_bytes());
 }
 
-/// The number of 8 bytes at a place.
-pub fn get_u64(b: &[u8], at: usize) -> u64
-    requires { at + 8 ≤ length b.now }
-    ensures { result ≡ number_of (take 8 (drop at b.now)) }
+/// The number at a place, of as many bytes as its type has.
+pub fn get<const N: usize, T: Field<N>>(b: &[u8], at: usize) -> T
+    requires { at + N ≤ length b.now }
+    ensures { T.value result ≡ number_of (take N (drop at b.now)) }
 {
-    let mut w = [0; 8];
-    w.copy_from_slice(&b[at..at + 8]);
-    u64::from_be_bytes(w)
+    let mut w = [0; N];
+    w.copy_from_slice(&b[at..at + N]);
+    T::from_bytes(&w)
 }
 
 /// A number comes back from its bytes, and bytes come back from their number, at every width.
-pub fn fields_stand() -> u8
+pub fn fields_stand()
     ensures { FieldLaws }
-{
-    0
-}
+{}
 
 /// Puts zeros into the whole buffer.
 pub fn clear(b: &mut [u8])
     ensures { b.new ≡ zeros (length b.old) }
 {
-    for x in b.iter_mut() {
-        *x = 0;
-    }
+    b.fill(0);
+}
+
+/// Whether every byte is zero.
+pub fn is_blank(b: &[u8]) -> bool
+    ensures { result ≡ is_blank b.now }
+{
+    b.iter().all(|x| *x == 0)
+}
+
+// The bits in which bytes that stand at one place differ, of all places together.
+fn differing(a: &[u8], b: &[u8]) -> u8
+    ensures { result ≡ fold differing 0 (zip a.now b.now) }
+{
+    a.iter().zip(b).fold(0, |bits, (x, y)| bits | (x ^ y))
 }
 
 /// Whether two rows of bytes are equal. Rows of one length are read to their end, whatever they hold.
+#[tactic(auto, using(crate::proofs::Compared::differing_zero, crate::proofs::Compared::differing_same))]
 pub fn same_bytes(a: &[u8], b: &[u8]) -> bool
     ensures { Decides result (a.now ≡ b.now) }
 {
-    if a.len() != b.len() {
-        return false;
-    }
-    let mut diff = 0;
-    for i in 0..a.len() {
-        diff |= a[i] ^ b[i];
-    }
-    diff == 0
+    a.len() == b.len() && differing(a, b) == 0
 }
 
 /// Guards a lent pad for key material: where the guard ends, the pad holds zeros.

@@ -5,18 +5,12 @@ use Rattle.fault.specs.declared.Halt.{Halt}
 use Rattle.fault.specs.declared.Step.TheVariants.{Make}
 use Rattle.layout.specs.declared.Head.{Head}
 use Rattle.layout.specs.Records.{encode_head}
-use Rattle.steps.specs.OneStep.{Write, write_of, Stepped}
+use Rattle.steps.specs.OneStep.{write_of, Stepped}
 use Rattle.steps.specs.Writes.{Ran}
 use Rattle.rules.specs.Files.{blank_writes, root_record, tree_writes}
 use Rattle.steps.proofs.Plans.{ran_next, ran_cut, ran_as}
 
 module _ (d : ℕ) (s : Slots) (n : ℕ) (root : List ℕ) (h : Head) (many : length s ≡ n) (some : 2 ≤ n) where
-  root_write : Slot → Write
-  root_write b = write_of 1 b Make
-
-  head_write : Slot → Write
-  head_write b = write_of 0 b Make
-
   plan : (a b : Slot) → a ≡ root_record root → b ≡ encode_head d h → blank_writes 0 n ++ (write_of 1 a Make ∷ write_of 0 b Make ∷ []) ≡ tree_writes d s root h
   plan a b e f =
       ap (λ m. blank_writes 0 m ++ (write_of 1 a Make ∷ write_of 0 b Make ∷ [])) (sym many)

@@ -1,6 +1,6 @@
 -- Reopening, from what its steps leave.
 use Rattle.std.proofs.Common.{◌≡◌, ℕ, ◌+◌, ◌<◌, ◌≤◌, Bool, true, false, cond, ltb, leb, List, length, None, Ok, Err, Result, sym, refl, ap, ◌∙◌, subst, arith}
-use Rattle.std.proofs.lemmas.Bool.{leb-true, le-leb, lt-leb, le-ltb, lt-ltb, and_parts, cond-true, cond-false}
+use Rattle.std.proofs.lemmas.Bool.{leb-true, le-ltb, lt-ltb, and_parts}
 use Rattle.octets.specs.Buffers.{zeros}
 use Rattle.refusal.specs.declared.Refusal.TheVariants.{ShortBuffer, SlotCount}
 use Rattle.device.specs.Effects.{Slots}
@@ -14,29 +14,14 @@ use Rattle.chain.specs.Outcome.{judged_as, reading_of, answer_of, marks_of}
 use Rattle.rules.specs.Kits.{Kit}
 use Rattle.steps.specs.Writes.{Ran, through, failed}
 use Rattle.rules.specs.Files.{sweep_writes}
-use Rattle.rules.specs.Calls.{Sound, Fitting, count_fits, slots_least, slots_most, reopen_verdict, read_by, read_as, Reopening, faulty, cut, swept}
-use Rattle.opening.specs.Sweeps.{Admitted}
+use Rattle.rules.specs.Calls.{Sound, count_fits, slots_least, slots_most, reopen_verdict, read_by, read_as, Reopening, faulty, cut, swept}
 
 -- ---- the checks
-pub admit_short : (d : ℕ) (s : Slots) (m : ℕ) → m < room_of (length s) → reopen_verdict d s m ≡ Err (plainly ShortBuffer)
-admit_short d s m h = cond-false (leb (room_of (length s)) m) (cond (count_fits d s) (Ok tt) (Err (plainly SlotCount))) (Err (plainly ShortBuffer)) (lt-leb (room_of (length s)) m h)
-
-pub admitted : (d : ℕ) (s : Slots) (m : ℕ) (r : Result ℕ Halt) → room_of (length s) ≤ m → Fitting d s r → Admitted d s m r
-admitted d s m (Ok n) h f = (
-  cond-true (leb (room_of (length s)) m) (cond (count_fits d s) (Ok tt) (Err (plainly SlotCount))) (Err (plainly ShortBuffer)) (le-leb (room_of (length s)) m h)
-      ∙ cond-true (count_fits d s) (Ok tt) (Err (plainly SlotCount)) f.0,
-  f.1,
-)
-admitted d s m (Err x) h f =
-    cond-true (leb (room_of (length s)) m) (cond (count_fits d s) (Ok tt) (Err (plainly SlotCount))) (Err (plainly ShortBuffer)) (le-leb (room_of (length s)) m h)
-    ∙ cond-false (count_fits d s) (Ok tt) (Err (plainly SlotCount)) f.0
-    ∙ ap Err (sym f.1)
-
 -- what a reopening that goes on knows of its slots and its marks
 fits_by : (a b : Bool) → ◌≡◌ {A = Result (Unit {0}) Halt} (cond a (cond b (Ok tt) (Err (plainly SlotCount))) (Err (plainly ShortBuffer))) (Ok tt) → (a ≡ true) × (b ≡ true)
 fits_by true true e = (refl, refl)
-fits_by true false e = let z : ◌≡◌ {A = ℕ} 0 1 = cc in absurd (omega arith)
-fits_by false b e = let z : ◌≡◌ {A = ℕ} 0 1 = cc in absurd (omega arith)
+fits_by true false e = absurd (cc)
+fits_by false b e = absurd (cc)
 
 pub room_for : (d : ℕ) (s : Slots) (m : ℕ) → reopen_verdict d s m ≡ Ok tt → room_of (length s) ≤ m
 room_for d s m e = leb-true (room_of (length s)) m (fits_by (leb (room_of (length s)) m) (count_fits d s) e).0
@@ -58,13 +43,13 @@ faulty_as : (d : ℕ) (f : File) (h : Halt) → ◌≡◌ {A = Result Survey Hal
 faulty_as d bad_head h e = cc
 faulty_as d (bad_link i) h e = cc
 faulty_as d (uncovered n) h e = cc
-faulty_as d (sound x xs) h e = let z : ◌≡◌ {A = ℕ} 0 1 = cc in absurd (omega arith)
+faulty_as d (sound x xs) h e = absurd (cc)
 
 swept_as : (d m : ℕ) (f : File) (x : Survey) (row : List ℕ) → ◌≡◌ {A = Result Survey Halt} (Ok x) (answer_of d None (judged_as f)) → row ≡ marks_of m (judged_as f) →
     (y : Sound) × (read_as true f ≡ Ok y) × (row ≡ marked_all (zeros m) y.1)
-swept_as d m bad_head x row e q = let z : ◌≡◌ {A = ℕ} 0 1 = cc in absurd (omega arith)
-swept_as d m (bad_link i) x row e q = let z : ◌≡◌ {A = ℕ} 0 1 = cc in absurd (omega arith)
-swept_as d m (uncovered n) x row e q = let z : ◌≡◌ {A = ℕ} 0 1 = cc in absurd (omega arith)
+swept_as d m bad_head x row e q = absurd (cc)
+swept_as d m (bad_link i) x row e q = absurd (cc)
+swept_as d m (uncovered n) x row e q = absurd (cc)
 swept_as d m (sound h xs) x row e q = ((h, xs), refl, q)
 
 -- the slots u after the restart are the slots s before it

@@ -4,26 +4,18 @@ use Rattle.std.proofs.lemmas.List.{take_more, take_all, length-take-le, get_or-d
 use Rattle.device.specs.Effects.{Slot, Slots, blank}
 use Rattle.fault.specs.declared.Halt.{Halt}
 use Rattle.fault.specs.declared.Step.TheVariants.{Sweep}
-use Rattle.octets.specs.Buffers.{zeros}
+use Rattle.octets.specs.Buffers.{zeros, is_blank}
 use Rattle.marks.specs.Rows.{room_of, is_marked}
 use Rattle.chain.specs.Reading.{Link, slots_of}
 use Rattle.chain.specs.Listing.{marked_all}
 use Rattle.steps.specs.OneStep.{Write, write_of, Stepped}
 use Rattle.steps.specs.Writes.{stood, Ran, through, failed}
-use Rattle.rules.specs.Files.{holds, is_blank, sweep_from, sweep_writes}
-use Rattle.steps.proofs.Plans.{stood_append, length_stood, ran_none, ran_one, ran_then, ran_cut, ran_as}
+use Rattle.rules.specs.Files.{holds, sweep_from, sweep_writes}
+use Rattle.steps.proofs.Plans.{done_slots, stood_append, length_stood, ran_none, ran_one, ran_then, ran_cut, ran_as}
 use Rattle.opening.specs.Sweeps.{sweep_at}
 use Rattle.opening.proofs.Marked.{marked_is}
 
 -- ---- one slot
-pub kept_marked : (s : Slots) (on kept : Bool) (i : ℕ) (b : Slot) → kept ≡ true → on ≡ true → Ran s (sweep_at kept i b) (Ok tt) s on
-kept_marked s on true i b e o = ran_none s s on refl o
-kept_marked s on false i b e o = let z : ◌≡◌ {A = ℕ} 0 1 = cc in absurd (omega arith)
-
-pub kept_blank : (s : Slots) (on kept : Bool) (i : ℕ) (b : Slot) → kept ≡ false → is_blank b ≡ true → on ≡ true → Ran s (sweep_at kept i b) (Ok tt) s on
-kept_blank s on kept i b e f o =
-    ran_as (ap (λ t. cond (t || is_blank b) [] (write_of i blank Sweep ∷ [])) (sym e)) (ran_as (ap (λ t. cond t [] (write_of i blank Sweep ∷ [])) (sym f)) (ran_none s s on refl o))
-
 pub one_swept : (s t : Slots) (on on' kept : Bool) (i : ℕ) (b : Slot) (r : Result (Unit {0}) Halt) → kept ≡ false → is_blank b ≡ false → i < length s →
     Stepped s on (write_of i blank Sweep) r t on' → Ran s (sweep_at kept i b) r t on'
 one_swept s t on on' kept i b r e f lt w =
@@ -76,14 +68,10 @@ sofar_more s xs i pos lt =
     ∙ ap (λ b. sofar s xs i ++ sweep_at (holds (slots_of xs) (1 + (i - 1))) (1 + (i - 1)) b) (get_or-drop 1 s (i - 1) [])
     ∙ ap (λ n. sofar s xs i ++ sweep_at (holds (slots_of xs) n) n (get_or s n [])) f
 
-done_slots : {s t : Slots} {on : Bool} {ws : List Write} → Ran s ws (Ok tt) t on → t ≡ stood s ws
-done_slots (through e a o) = a
-done_slots (failed m h e c o) = let z : ◌≡◌ {A = ℕ} 0 1 = cc in absurd (omega arith)
-
 -- the power is on after writes that are all done, and there are as many slots
 pub ran_on : {s t : Slots} {on : Bool} {ws : List Write} → Ran s ws (Ok tt) t on → on ≡ true
 ran_on (through e a o) = o
-ran_on (failed m h e c o) = let z : ◌≡◌ {A = ℕ} 0 1 = cc in absurd (omega arith)
+ran_on (failed m h e c o) = absurd (cc)
 
 pub ran_long : {s t : Slots} {on : Bool} {ws : List Write} → Ran s ws (Ok tt) t on → length t ≡ length s
 ran_long {s = s} {ws = ws} a = ap length (done_slots a) ∙ length_stood s ws

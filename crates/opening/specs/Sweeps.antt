@@ -4,7 +4,7 @@ use Rattle.device.specs.Effects.{Slot, Slots, blank}
 use Rattle.fault.specs.declared.Halt.{Halt}
 use Rattle.fault.specs.declared.Step.TheVariants.{Sweep}
 use Rattle.steps.specs.OneStep.{Write, write_of}
-use Rattle.rules.specs.Files.{is_blank}
+use Rattle.octets.specs.Buffers.{is_blank}
 use Rattle.rules.specs.Calls.{reopen_verdict}
 
 -- the write that sweeps slot i, which holds the bytes b: none where the slot is kept or zero

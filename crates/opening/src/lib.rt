@@ -11,26 +11,29 @@ ghost use Rattle.chain.specs.Reading.{Link};
 ghost use Rattle.chain.specs.Listing.{marked_all};
 ghost use Rattle.tree.specs.Nodes.{tree_levels};
 ghost use Rattle.steps.specs.Writes.{Ran};
-ghost use Rattle.rules.specs.Files.{blank_writes, tree_writes, is_blank, sweep_writes};
-ghost use Rattle.rules.specs.Kits.{Kit};
+ghost use Rattle.rules.specs.Files.{blank_writes, tree_writes, sweep_writes};
+ghost use Rattle.rules.specs.Kits.{Kit, numbers_in};
 ghost use Rattle.rules.specs.Calls.{Making, Reopening};
 ghost use Rattle.opening.specs.Sweeps.{sweep_at, Admitted};
 
 use chain::read_marking;
 use device::{ReadSlots, WriteSlots};
 use fault::{Halt, Step};
-use layout::{Head, NodeFields, encode_head, encode_node};
+use layout::{Head, NodeFields, Numbers, encode_head, encode_node};
 use marks::{is_marked, room};
-use octets::{Wiped, clear};
+use octets::{Wiped, clear, is_blank};
 use refusal::Refusal;
 use rules::slot_count;
 use steps::{read_at, restart, write_at};
 use tree::LEVELS;
 
-// Zeros to every slot.
+// Zeros to every slot. Here and in `sweep` the loop is over indices, since the index is what a write is given.
+// `count` stays beside `d`: in a struct with it each clause would name the device through the struct, and the struct would be
+// made once, for three private functions.
+#[tactic(auto, using(steps::proofs::Plans::ran_none))]
 fn blank_all<D: WriteSlots>(d: &mut D, count: u16) -> Result<(), Halt>
-    requires { (length (D.ReadSlots.slots d.old) ≡ count) × (D.ReadSlots.powered d.old ≡ true) }
-    ensures { Ran (D.ReadSlots.slots d.old) (blank_writes 0 count) result (D.ReadSlots.slots d.new) (D.ReadSlots.powered d.new) }
+    requires { (length (D.slots d.old) ≡ count) × (D.powered d.old ≡ true) }
+    ensures { Ran (D.slots d.old) (blank_writes 0 count) result (D.slots d.new) (D.powered d.new) }
 {
     for i in 0..count {
         write_at(d, i, &[0; 64], Step::Make)?;
@@ -46,8 +49,8 @@ fn lay_tree<D: WriteSlots>(
     head: &Head,
     slot: &mut [u8; 64],
 ) -> Result<(), Halt>
-    requires { (length (D.ReadSlots.slots d.old) ≡ count) × ((2 ≤ count) × (D.ReadSlots.powered d.old ≡ true)) }
-    ensures did { Ran (D.ReadSlots.slots d.old) (tree_writes tree_levels (D.ReadSlots.slots d.old) root.now head.now) result (D.ReadSlots.slots d.new) (D.ReadSlots.powered d.new) }
+    requires { (length (D.slots d.old) ≡ count) × ((2 ≤ count) × (D.powered d.old ≡ true)) }
+    ensures did { Ran (D.slots d.old) (tree_writes tree_levels (D.slots d.old) root.now head.now) result (D.slots d.new) (D.powered d.new) }
     ensures clean { slot.new ≡ replicate 64 0 }
 {
     let guard = Wiped { pad: slot };
@@ -71,11 +74,10 @@ pub fn make_on<D: WriteSlots>(
     d: &mut D,
     root: &[u8; 32],
     name: &[u8; 16],
-    generator: u8,
-    sealer: u8,
+    numbers: Numbers,
     slot: &mut [u8; 64],
 ) -> Result<(), Halt>
-    ensures did { (k : Kit) → k.generator ≡ generator → k.sealer ≡ sealer → (headed : Bool) × Making k tree_levels (D.ReadSlots.slots d.old) (D.ReadSlots.powered d.old) root.now name.now result (D.ReadSlots.slots d.new) (D.ReadSlots.powered d.new) headed }
+    ensures did { (k : Kit) → numbers_in k ≡ numbers → (headed : Bool) × Making k tree_levels (D.slots d.old) (D.powered d.old) root.now name.now result (D.slots d.new) (D.powered d.new) headed }
     ensures clean { slot.new ≡ replicate 64 0 }
 {
     let guard = Wiped { pad: slot };
@@ -85,22 +87,10 @@ pub fn make_on<D: WriteSlots>(
         first: 1,
         issued: 0,
         name: *name,
-        generator,
-        sealer,
+        generator: numbers.generator,
+        sealer: numbers.sealer,
     };
     lay_tree(d, count, root, &head, guard.pad)
-}
-
-// Whether every byte is zero.
-fn is_blank(bytes: &[u8]) -> bool
-    ensures { result ≡ is_blank bytes.now }
-{
-    for b in bytes {
-        if *b != 0 {
-            return false;
-        }
-    }
-    true
 }
 
 // Zeros to a slot that is not marked and not zero.
@@ -110,8 +100,8 @@ fn sweep_slot<D: WriteSlots>(
     marks: &[u8],
     slot: &mut [u8; 64],
 ) -> Result<(), Halt>
-    requires { (index < length (D.ReadSlots.slots d.old)) × (D.ReadSlots.powered d.old ≡ true) }
-    ensures { Ran (D.ReadSlots.slots d.old) (sweep_at (is_marked marks.now index) index (slice_index_or (D.ReadSlots.slots d.old) index [])) result (D.ReadSlots.slots d.new) (D.ReadSlots.powered d.new) }
+    requires { (index < length (D.slots d.old)) × (D.powered d.old ≡ true) }
+    ensures { Ran (D.slots d.old) (sweep_at (is_marked marks.now index) index (slice_index_or (D.slots d.old) index [])) result (D.slots d.new) (D.powered d.new) }
 {
     if is_marked(marks, index as usize) {
         return Ok(());
@@ -124,14 +114,15 @@ fn sweep_slot<D: WriteSlots>(
 }
 
 // Zeros to every slot that is neither the head's nor marked and that is not zero.
+#[tactic(auto, using(crate::proofs::Swept::sofar_none))]
 fn sweep<D: WriteSlots>(
     d: &mut D,
     count: u16,
     marks: &[u8],
     slot: &mut [u8; 64],
 ) -> Result<(), Halt>
-    requires { (length (D.ReadSlots.slots d.old) ≡ count) × (D.ReadSlots.powered d.old ≡ true) }
-    ensures { (xs : List Link) → marks.now ≡ marked_all (zeros (length marks.now)) xs → room_of count ≤ length marks.now → Ran (D.ReadSlots.slots d.old) (sweep_writes (D.ReadSlots.slots d.old) xs) result (D.ReadSlots.slots d.new) (D.ReadSlots.powered d.new) }
+    requires { (length (D.slots d.old) ≡ count) × (D.powered d.old ≡ true) }
+    ensures { (xs : List Link) → marks.now ≡ marked_all (zeros (length marks.now)) xs → room_of count ≤ length marks.now → Ran (D.slots d.old) (sweep_writes (D.slots d.old) xs) result (D.slots d.new) (D.powered d.new) }
 {
     for i in 1..count {
         sweep_slot(d, i, marks, slot)?;
@@ -141,7 +132,7 @@ fn sweep<D: WriteSlots>(
 
 // The number of slots, where so many bytes of marks serve for it and a tree fits.
 fn admit<D: ReadSlots>(d: &D, marks: usize) -> Result<u16, Halt>
-    ensures { Admitted tree_levels (D.ReadSlots.slots d.now) marks result }
+    ensures { Admitted tree_levels (D.slots d.now) marks result }
 {
     if marks < room(d.count()) {
         return Err(Halt::plain(Refusal::ShortBuffer));
@@ -152,16 +143,15 @@ fn admit<D: ReadSlots>(d: &D, marks: usize) -> Result<u16, Halt>
 // Restarts the device, reads the file and sweeps the slots beside its chain.
 fn restart_and_sweep<D: WriteSlots>(
     d: &mut D,
-    generator: u8,
-    sealer: u8,
+    numbers: Numbers,
     marks: &mut [u8],
     slot: &mut [u8; 64],
 ) -> Result<(), Halt>
-    ensures { (k : Kit) → k.generator ≡ generator → k.sealer ≡ sealer → Reopening k tree_levels (D.ReadSlots.slots d.old) (D.ReadSlots.powered d.old) (length marks.old) result (D.ReadSlots.slots d.new) (D.ReadSlots.powered d.new) }
+    ensures { (k : Kit) → numbers_in k ≡ numbers → Reopening k tree_levels (D.slots d.old) (D.powered d.old) (length marks.old) result (D.slots d.new) (D.powered d.new) }
 {
     let count = admit(d, marks.len())?;
     restart(d)?;
-    read_marking(d, generator, sealer, None, marks, slot)?;
+    read_marking(d, numbers, None, marks, slot)?;
     sweep(d, count, marks, slot)
 }
 
@@ -169,17 +159,16 @@ fn restart_and_sweep<D: WriteSlots>(
 /// The marks and the lent slot hold zeros afterwards. For the server alone: it works on a bare device.
 pub fn reopen_on<D: WriteSlots>(
     d: &mut D,
-    generator: u8,
-    sealer: u8,
+    numbers: Numbers,
     marks: &mut [u8],
     slot: &mut [u8; 64],
 ) -> Result<(), Halt>
-    ensures did { (k : Kit) → k.generator ≡ generator → k.sealer ≡ sealer → Reopening k tree_levels (D.ReadSlots.slots d.old) (D.ReadSlots.powered d.old) (length marks.old) result (D.ReadSlots.slots d.new) (D.ReadSlots.powered d.new) }
+    ensures did { (k : Kit) → numbers_in k ≡ numbers → Reopening k tree_levels (D.slots d.old) (D.powered d.old) (length marks.old) result (D.slots d.new) (D.powered d.new) }
     ensures marks { marks.new ≡ zeros (length marks.old) }
     ensures clean { slot.new ≡ replicate 64 0 }
 {
     let guard = Wiped { pad: slot };
-    let done = restart_and_sweep(d, generator, sealer, marks, guard.pad);
+    let done = restart_and_sweep(d, numbers, marks, guard.pad);
     clear(marks);
     done
 }

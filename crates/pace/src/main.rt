@@ -12,7 +12,7 @@ use samples::{Bytes, KEY_NAME, ROOT, Show, record_of, session};
 use scratch::Scratch;
 use server::{Cold, Running};
 use serving::{Held, device_of, opened, split};
-use std::time::Instant;
+use std::time::{Duration, Instant};
 use std::{env, io};
 
 // The raw slots of a device, and its bytes.
@@ -38,9 +38,8 @@ struct Watch<'a> {
     rt: &'a HostRuntime,
     show: Show<'a>,
     start: Instant,
-    // nanoseconds
-    issuing: u64,
-    redeeming: u64,
+    issuing: Duration,
+    redeeming: Duration,
     // a record of the greatest length, and what issue and redeem wrote last
     record: Bytes,
     ticket: Bytes,
@@ -55,8 +54,8 @@ impl<'a> Watch<'a> {
             rt,
             show: Show::new(rt),
             start: Instant::now(rt)?,
-            issuing: 0,
-            redeeming: 0,
+            issuing: Duration::ZERO,
+            redeeming: Duration::ZERO,
             record: record_of(&session(&[b'n'; 32], 0x5a)),
             ticket: Bytes::none(),
             state: Bytes::none(),
@@ -65,30 +64,26 @@ impl<'a> Watch<'a> {
         })
     }
 
-    // Nanoseconds since the start.
-    fn clock(&mut self) -> u64 {
-        match self.start.elapsed(self.rt) {
-            Ok(span) => span
-                .as_secs()
-                .saturating_mul(1_000_000_000)
-                .saturating_add(u64::from(span.subsec_nanos())),
-            Err(_) => {
-                self.show.expect(false, "the clock failed");
-                0
-            }
-        }
+    // The time since the start.
+    fn clock(&mut self) -> Duration {
+        let span = self.start.elapsed(self.rt);
+        self.show.expect(span.is_ok(), "the clock failed");
+        span.unwrap_or(Duration::ZERO)
     }
 
     // Begins a case anew.
     fn reset(&mut self) {
-        self.issuing = 0;
-        self.redeeming = 0;
+        self.issuing = Duration::ZERO;
+        self.redeeming = Duration::ZERO;
     }
 
-    // Prints a case's time for one call.
+    // Prints a case's time for one call, in nanoseconds.
     fn tell(&mut self, tree: &str, device: &str) {
         for (call, spent) in [("issue", self.issuing), ("redeem", self.redeeming)] {
-            println!(self.show; "{call}, {tree}, {device}: {}", spent / CALLS as u64);
+            println!(self.show;
+                "{call}, {tree}, {device}: {}",
+                spent.as_nanos() / CALLS as u128
+            );
         }
     }
 }
@@ -183,12 +178,7 @@ fn timed<D: WriteSlots>(watch: &mut Watch, name: &str, device: D) -> D {
 
 // Whether the word `time` is among the arguments.
 fn asked(rt: &HostRuntime) -> io::Result<bool> {
-    for word in env::args(rt)?.skip(1) {
-        if word.as_str() == "time" {
-            return Ok(true);
-        }
-    }
-    Ok(false)
+    Ok(env::args(rt)?.skip(1).any(|word| word.as_str() == "time"))
 }
 
 fn main(rt: HostRuntime) -> anyhow::Result<()> {

@@ -1,46 +1,20 @@
 //! Shows a power cut in each raw write of a journal's write, the restart after it, and what the slot then holds; then bad input.
 #![tactic(auto)]
 
-use device::{DeviceFault, ReadSlots, TearSlots, WriteSlots};
-use image::ByteImage;
+mod words;
+
+use beds::Medium;
+use device::{ReadSlots, SLOT_SIZE, TearSlots, WriteSlots};
 use journal::Journal;
+use medium::Cut;
 use samples::{Show, all_are};
-use sectors::SectorImage;
+use words::{NEW, Said, Slot};
 
 // Ten slots and ten bytes more: for the sector image one whole sector and a broken one.
 const ROW: usize = 650;
 
-// The journal's slot that is written, and what every byte of it is and becomes.
+// The journal's slot that is written.
 const SLOT: usize = 3;
-
-const OLD: u8 = 5;
-
-const NEW: u8 = 0xee;
-
-#[derive(Clone, Copy)]
-enum Medium {
-    Bytes,
-    Sectors,
-}
-
-// What is done with a journal.
-#[derive(Clone, Copy)]
-enum Deed {
-    Write,
-    Restart,
-}
-
-// A cut after so many raw writes, with so many bytes of the next one standing.
-#[derive(Clone, Copy)]
-struct Cut {
-    after: usize,
-    standing: usize,
-}
-
-const NEVER: Cut = Cut {
-    after: usize::MAX,
-    standing: 0,
-};
 
 // Some cuts, each with the raw write that it meets.
 const CUTS: [(&str, usize, usize); 8] = [
@@ -54,71 +28,21 @@ const CUTS: [(&str, usize, usize); 8] = [
     ("none of them", 9, 64),
 ];
 
-// What a journal answers, then to a read of the slot, and what the buffer of that read holds.
-#[derive(Clone, Copy)]
-struct Seen {
-    answer: &'static str,
-    read: &'static str,
-    buffer: &'static str,
-}
-
 // Every raw slot from 2 on is filled with its own number; mark and copy are blank.
-fn lay_out(row: &mut [u8; ROW]) {
-    for i in 0..ROW {
-        let raw = i / 64;
-        row[i] = if raw < 2 { 0 } else { raw as u8 };
+fn laid_out() -> [u8; ROW] {
+    let mut row = [0; ROW];
+    for (raw, slot) in (2..11u8).zip(row[2 * SLOT_SIZE..].chunks_mut(SLOT_SIZE)) {
+        slot.fill(raw);
     }
+    row
 }
 
-fn said(answer: Result<(), DeviceFault>) -> &'static str {
-    match answer {
-        Ok(()) => "done",
-        Err(DeviceFault::NoSuchSlot) => "no such slot",
-        Err(DeviceFault::NoPower) => "no power",
-    }
-}
-
-fn held(slot: &[u8; 64]) -> &'static str {
-    if all_are(slot, OLD) {
-        "the old bytes"
-    } else if all_are(slot, NEW) {
-        "the new bytes"
-    } else if all_are(slot, 0) {
-        "zeros"
-    } else {
-        "something else"
-    }
-}
-
-fn act<D: TearSlots + Drop>(device: D, deed: Deed) -> Seen {
-    let mut journal = Journal::new(device);
-    let answer = match deed {
-        Deed::Write => said(journal.write(SLOT, &[NEW; 64])),
-        Deed::Restart => said(journal.restart()),
-    };
-    let mut slot = [1; 64];
-    let read = said(journal.read(SLOT, &mut slot));
-    let _device = journal.into_below();
-    Seen {
-        answer,
-        read,
-        buffer: held(&slot),
-    }
-}
-
-fn act_on(medium: Medium, row: &mut [u8; ROW], deed: Deed, cut: Cut) -> Seen {
-    match medium {
-        Medium::Bytes => {
-            let mut image = ByteImage::new(row);
-            image.appoint(cut.after, cut.standing);
-            act(image, deed)
-        }
-        Medium::Sectors => {
-            let mut image = SectorImage::new(row);
-            image.appoint(cut.after, cut.standing);
-            act(image, deed)
-        }
-    }
+// What a journal answers to a read of the slot, and what the buffer of that read holds.
+fn look<D: TearSlots + Drop>(journal: Journal<D>) -> (Said, Slot) {
+    let mut slot = [1; SLOT_SIZE];
+    let read = Said(journal.read(SLOT, &mut slot));
+    let _image = journal.into_below();
+    (read, Slot(slot))
 }
 
 // The first three bytes of the mark, and the first and the last of the copy and of the slot's own place.
@@ -137,89 +61,88 @@ fn show_below(show: &mut Show, row: &[u8; ROW]) {
     );
 }
 
-fn show_cut(show: &mut Show, medium: Medium, step: &str, cut: Cut) {
-    let mut row = [0; ROW];
-    lay_out(&mut row);
-    println!(show; "cut at {step}, {} bytes standing", cut.standing);
-    let written = act_on(medium, &mut row, Deed::Write, cut);
-    println!(show; "  the write answers: {}", written.answer);
-    println!(show;
-        "  a read at once answers: {}, its buffer holds {}",
-        written.read, written.buffer
-    );
-    show_below(show, &row);
-    let restarted = act_on(medium, &mut row, Deed::Restart, NEVER);
-    println!(show; "  the restart answers: {}", restarted.answer);
-    println!(show;
-        "  a read answers: {}, slot {SLOT} holds {}",
-        restarted.read, restarted.buffer
-    );
+fn show_write(show: &mut Show, medium: Medium, row: &mut [u8; ROW], cut: Cut) {
+    let mut journal = Journal::new(medium.lay(row, Some(cut)));
+    let answer = Said(journal.write(SLOT, &[NEW; SLOT_SIZE]));
+    println!(show; "  the write answers: {answer}");
+    let (read, slot) = look(journal);
+    println!(show; "  a read at once answers: {read}, its buffer holds {slot}");
+}
+
+fn show_restart(show: &mut Show, medium: Medium, row: &mut [u8; ROW]) {
+    let mut journal = Journal::new(medium.lay(row, None));
+    let answer = Said(journal.restart());
+    println!(show; "  the restart answers: {answer}");
+    let (read, slot) = look(journal);
+    println!(show; "  a read answers: {read}, slot {SLOT} holds {slot}");
 }
 
 fn run(show: &mut Show, name: &str, medium: Medium) {
     show.println(name);
     for (step, after, standing) in CUTS {
-        show_cut(show, medium, step, Cut { after, standing });
+        println!(show; "cut at {step}, {standing} bytes standing");
+        let mut row = laid_out();
+        show_write(show, medium, &mut row, Cut { after, standing });
+        show_below(show, &row);
+        show_restart(show, medium, &mut row);
     }
 }
 
 // What a device answers to an index and to a write there.
 fn ask<D: TearSlots + Drop>(show: &mut Show, label: &str, mut device: D, index: usize) {
-    let mut slot = [1; 64];
+    let mut slot = [1; SLOT_SIZE];
     let count = device.count();
-    let read = said(device.read(index, &mut slot));
-    let written = said(device.write(index, &[NEW; 64]));
-    let held = held(&slot);
+    let read = Said(device.read(index, &mut slot));
+    let written = Said(device.write(index, &[NEW; SLOT_SIZE]));
     println!(show;
-        "{label}: {count} slots, read {index}: {read}, buffer {held}, write {index}: {written}"
+        "{label}: {count} slots, read {index}: {read}, buffer {}, write {index}: {written}",
+        Slot(slot)
     );
 }
+
+// Devices asked for a slot that they do not have: what, the image, the bytes that it takes of the row, and the index.
+const OUTSIDE: [(&str, Medium, usize, usize); 4] = [
+    ("byte image, index past the end", Medium::Bytes, ROW, 10),
+    ("sector image, index past the end", Medium::Sectors, ROW, 8),
+    ("byte image of 63 bytes", Medium::Bytes, 63, 0),
+    ("sector image of 511 bytes", Medium::Sectors, 511, 0),
+];
+
+// Devices whose power was cut.
+const DARK: [(&str, Medium); 2] = [
+    ("byte image, power off", Medium::Bytes),
+    ("sector image, power off", Medium::Sectors),
+];
 
 fn bad_input(show: &mut Show) {
     show.println("bad input");
     let mut row = [7; ROW];
-    ask(
-        show,
-        "byte image, index past the end",
-        ByteImage::new(&mut row),
-        10,
-    );
-    ask(
-        show,
-        "sector image, index past the end",
-        SectorImage::new(&mut row),
-        8,
-    );
-    ask(
-        show,
-        "byte image of 63 bytes",
-        ByteImage::new(&mut [7; 63]),
-        0,
-    );
-    ask(
-        show,
-        "sector image of 511 bytes",
-        SectorImage::new(&mut [7; 511]),
-        0,
-    );
-    let mut image = ByteImage::new(&mut row);
-    image.appoint(0, 0);
-    let _cut = image.write(0, &[NEW; 64]);
-    ask(show, "byte image, power off", image, 0);
-    let mut image = SectorImage::new(&mut row);
-    image.appoint(0, 0);
-    let _cut = image.write(0, &[NEW; 64]);
-    ask(show, "sector image, power off", image, 0);
+    for (label, medium, bytes, index) in OUTSIDE {
+        let image = medium.lay(&mut row[..bytes.min(ROW)], None);
+        ask(show, label, image, index);
+    }
+    show_dark(show, &mut row);
     println!(show; "no byte has changed: {}", all_are(&row, 7));
 }
 
+fn show_dark(show: &mut Show, row: &mut [u8; ROW]) {
+    let cut = Cut {
+        after: 0,
+        standing: 0,
+    };
+    for (label, medium) in DARK {
+        let mut image = medium.lay(row, Some(cut));
+        let _cut = image.write(0, &[NEW; SLOT_SIZE]);
+        ask(show, label, image, 0);
+    }
+}
+
 fn no_room(show: &mut Show) {
-    let mut row = [7; 128];
-    let mut journal = Journal::new(ByteImage::new(&mut row));
+    let mut row = [7; 2 * SLOT_SIZE];
+    let mut journal = Journal::new(Medium::Bytes.lay(&mut row, None));
     let count = journal.count();
-    let mut slot = [1; 64];
-    let read = said(journal.read(0, &mut slot));
-    let written = said(journal.write(0, &[NEW; 64]));
+    let read = Said(journal.read(0, &mut [1; SLOT_SIZE]));
+    let written = Said(journal.write(0, &[NEW; SLOT_SIZE]));
     let _image = journal.into_below();
     println!(show; "journal over two slots: {count} slots, read 0: {read}, write 0: {written}");
 }

@@ -1,34 +1,35 @@
 -- A puncture put together from its writes.
-use Rattle.std.proofs.Common.{◌≡◌, ℕ, ◌-◌, ◌*◌, ◌<◌, ◌≤◌, Bool, true, false, ◌⊎◌, List, [], ◌∷◌, ◌++◌, length, get_or, Ok, Err, Result, sym, refl, ap, ◌∙◌, subst, inl, inr, append_assoc, arith}
-use Rattle.std.proofs.lemmas.List.{length-drop, length-replicate, get_or-set_other}
+use Rattle.std.proofs.Common.{replicate, ◌≡◌, ℕ, ◌-◌, ◌<◌, ◌≤◌, Bool, true, false, ◌⊎◌, List, [], ◌∷◌, ◌++◌, length, get_or, Ok, Err, Result, sym, refl, ap, ◌∙◌, subst, inl, inr, append_assoc, arith}
+use Rattle.std.proofs.lemmas.List.{length-replicate, get_or-set_other}
 use Rattle.octets.specs.Buffers.{zeros}
 use Rattle.device.specs.Effects.{Slot, Slots, blank}
 use Rattle.fault.specs.declared.Halt.{Halt}
 use Rattle.fault.specs.declared.Step.TheVariants.{NewRecord, Join, Erasure}
-use Rattle.layout.specs.Records.{value_of}
+use Rattle.layout.specs.Records.{relinked}
 use Rattle.tree.specs.declared.Node.{Node}
 use Rattle.tree.specs.Nodes.{root_node, most_levels, Above}
 use Rattle.tree.specs.Cover.{In}
 use Rattle.tree.specs.Puncture.{siblings_from}
-use Rattle.tree.specs.Values.{Valued, valued, way, value_from, sibling_values}
+use Rattle.tree.specs.Values.{Valued, valued, value_from, sibling_values}
 use Rattle.tree.proofs.Members.{in_right}
 use Rattle.tree.proofs.Flanks.{length_siblings}
 use Rattle.marks.specs.Rows.{room_of, is_marked}
 use Rattle.marks.proofs.Laws.{mark_laws}
 use Rattle.chain.specs.declared.Found.{Found}
+use Rattle.chain.proofs.Chains.{slot_left}
 use Rattle.chain.specs.Reading.{Link, slots_of}
 use Rattle.chain.specs.Listing.{first_slot, marked_all}
 use Rattle.rules.specs.Kits.{Kit, value_length}
 use Rattle.steps.specs.OneStep.{write_of, Stepped}
 use Rattle.steps.specs.Writes.{stood, Ran, through, failed}
-use Rattle.rules.specs.Files.{relinked, entry, last_slot, links_in, record_of, new_writes, join_write, erase_write, redeem_writes, FreeSlots, free_count}
+use Rattle.rules.specs.Files.{entry, last_slot, links_in, record_of, new_writes, join_write, erase_write, redeem_writes, FreeSlots, free_count}
 use Rattle.rules.specs.Calls.{Sound, new_links}
 use Rattle.steps.proofs.Plans.{stood_append, length_stood, ran_next, ran_cut, ran_as}
-use Rattle.puncture.specs.Laying.{open_slots, backward, value_at, links_for, Able, Laid, all, cut}
+use Rattle.puncture.specs.Laying.{open_slots, backward, links_for, Able, Laid, all, cut}
 use Rattle.puncture.specs.Puncturing.{Given, Puncturing}
 use Rattle.puncture.proofs.Open.{Bounded, within, rises, backward_apart, backward_in, length_backward, open_count, chain_marked}
 use Rattle.puncture.proofs.Files.{Standing, Chained, slot_of, sound_chain}
-use Rattle.puncture.proofs.Values.{follow_long, value_at_is, links_are}
+use Rattle.puncture.proofs.Values.{value_at_is, links_are}
 
 both : {b : Bool} → b ≡ true → b ≡ false → ⊥
 both p q = let z : true ≡ false = sym p ∙ q in let y : ◌≡◌ {A = ℕ} 0 1 = cc in omega arith
@@ -37,11 +38,6 @@ both p q = let z : true ≡ false = sym p ∙ q in let y : ◌≡◌ {A = ℕ} 0
 pub last_slot_cases : (i : ℕ) (xs : List Link) → (last_slot i xs ≡ i) ⊎ In (last_slot i xs) (slots_of xs)
 last_slot_cases i [] = inl refl
 last_slot_cases i (x ∷ xs) = elim (last_slot_cases x.slot xs) [ inl e ↦ inr (inl e) | inr m ↦ inr (inr m) ]
-
-slots_left : (j : ℕ) (xs ys : List Link) → In j (slots_of xs) → In j (slots_of (xs ++ ys))
-slots_left j [] ys m = absurd m
-slots_left j (x ∷ xs) ys (inl q) = inl q
-slots_left j (x ∷ xs) ys (inr m) = inr (slots_left j xs ys m)
 
 first_entry : (xs : List Link) → first_slot xs ≡ entry xs 0
 first_entry [] = refl
@@ -61,7 +57,7 @@ unwritten s (x ∷ xs) i j f =
     ∙ get_or-set_other (stood s (new_writes xs i)) x.slot j (record_of x (entry xs i)) [] (λ q. f (inl q))
     ∙ unwritten s xs i j (λ m. f (inr m))
 
-clash : {A B : Type 0} (a : A) (b : B) → ◌≡◌ {A = Result A B} (Err b) (Ok a) → ⊥
+pub clash : {A B : Type 0} (a : A) (b : B) → ◌≡◌ {A = Result A B} (Err b) (Ok a) → ⊥
 clash a b e = let z : ◌≡◌ {A = ℕ} 0 1 = cc in omega arith
 
 laid_ok : {s t : Slots} {links : List Link} {last i : ℕ} {on : Bool} → Laid s links last (Ok i) t on → (i ≡ entry links last) × Ran s (new_writes links last) (Ok tt) t on
@@ -122,8 +118,8 @@ module _ (s : Slots) (front : List Link) (x : Link) (back new : List Link) (last
       ran_as (append_assoc (new_writes new onward) (join_write s front inward ∷ []) (erase_write x ∷ [])) (ran_next (erase_write x) (joined_by t u on on' j (Ok tt) l w) here z)
 
 -- ---- from what is given
-module _ {k : Kit} {d : ℕ} {s : Slots} {on : Bool} {count : ℕ} {found : Found} {n : ℕ} {row marks : List ℕ} {f : Sound} {front : List Link} {x : Link} {back : List Link}
-    (g : Given k d s on count found n row marks f front x back) (sized : (j : ℕ) → j < length s → length (get_or s j []) ≡ 64) where
+module _ {k : Kit} {d : ℕ} {s : Slots} {on : Bool} {count : ℕ} {found : Found} {n : ℕ} {row : List (List ℕ)} {marks : List ℕ} {f : Sound} {front : List Link} {x : Link} {back : List Link}
+    (g : Given k d s on count found n row marks f front x back) where
   chain_stands : Chained d s 0 f.1
   chain_stands = sound_chain d k.generator k.sealer s f.0 f.1 g.file
 
@@ -148,7 +144,7 @@ module _ {k : Kit} {d : ℕ} {s : Slots} {on : Bool} {count : ℕ} {found : Foun
 
   free_count_is : length (open_slots marks count) ≡ free_count s f.1
   free_count_is =
-      let c = open_count mark_laws (length marks) f.1 count g.wide chain_stands.apart slots_within in
+      let c = open_count (length marks) f.1 count g.wide chain_stands.apart slots_within in
       let e : length (open_slots marks count) ≡ length (open_slots (marked_all (zeros (length marks)) f.1) count) = ap (λ (l : List ℕ). length (open_slots l count)) g.marked in
       omega (arith, c, e, g.size)
 
@@ -186,12 +182,6 @@ module _ {k : Kit} {d : ℕ} {s : Slots} {on : Bool} {count : ℕ} {found : Foun
   siblings_many : length (siblings_from d x.node n) ≡ m
   siblings_many = length_siblings x.node.depth m x.node.first n
 
-  value_long : length x.value ≡ value_length
-  unfolding value_of
-  value_long =
-      let e : x.value ≡ value_of (get_or s x.slot []) = ap (λ (z : Link). z.value) stands.link in
-      ap length e ∙ length-drop 32 (get_or s x.slot []) ∙ ap (λ (z : ℕ). z - 32) (sized x.slot stands.within)
-
   module _ (nodes : List Node) (is : nodes ≡ siblings_from d found.node n) where
     nodes_are : nodes ≡ siblings_from d x.node n
     nodes_are = is ∙ ap (λ (y : Node). siblings_from d y n) node_same
@@ -206,9 +196,9 @@ module _ {k : Kit} {d : ℕ} {s : Slots} {on : Bool} {count : ℕ} {found : Foun
     links_new =
         let h : Node → List ℕ = value_from k.expansion d x.node x.value in
         let sib = siblings_from d x.node n in
-        let v : (j : ℕ) → j < length sib → value_at row j ≡ h (get_or sib j root_node) = λ j l.
-        ap (λ (w : List ℕ). value_at w j) g.kept
-        ∙ value_at_is h sib (zeros (most_levels * value_length - length (sibling_values k.expansion d x.node x.value n))) (λ y. follow_long k.expansion g.long x.value (way (y.depth - x.node.depth) (d - y.depth) y.first) value_long) j l in
+        let v : (j : ℕ) → j < length sib → get_or row j [] ≡ h (get_or sib j root_node) = λ j l.
+        ap (λ (w : List (List ℕ)). get_or w j []) g.kept
+        ∙ value_at_is h sib (replicate (most_levels - length (sibling_values k.expansion d x.node x.value n)) (zeros value_length)) j l in
         ap (λ (l : List Node). links_for (open_slots marks count) l row) nodes_are
         ∙ links_are (open_slots marks count) sib row h v
         ∙ ap (λ (j : ℕ). links_in (backward (open_slots marks count) j) (valued h sib)) siblings_many
@@ -225,7 +215,7 @@ module _ {k : Kit} {d : ℕ} {s : Slots} {on : Bool} {count : ℕ} {found : Foun
     last_in : (last_slot 0 front ≡ 0) ⊎ In (last_slot 0 front) (slots_of f.1)
     last_in = elim (last_slot_cases 0 front) [
       | inl e ↦ inl e
-      | inr i ↦ inr (subst (λ (l : List Link). In (last_slot 0 front) (slots_of l)) (sym g.chain) (slots_left (last_slot 0 front) front (x ∷ back) i))
+      | inr i ↦ inr (subst (λ (l : List Link). In (last_slot 0 front) (slots_of l)) (sym g.chain) (slot_left (last_slot 0 front) front (x ∷ back) i))
     ]
 
     last_within : last_slot 0 front < length s

@@ -1,13 +1,13 @@
 -- What stands in a file that is sound: its records in slots of their own, laid out as nodes, one after the other.
 use Rattle.std.proofs.Common.{◌≡◌, ℕ, zero, suc, ◌-◌, ◌^◌, ◌<◌, ◌≤◌, Bool, true, false, cond, ◌&&◌, eqb, ltb, leb, List, [], ◌∷◌, length, get_or, is_some, Some, None, Option, sym, refl, ap, ◌∙◌, subst, inl, inr, ⊎_elim, arith, pow_pos}
-use Rattle.std.proofs.lemmas.Bool.{cases_Bool, and_parts, leb-true, ltb-true, eqb-true}
+use Rattle.std.proofs.lemmas.Bool.{cases_Bool, and_parts, leb-true, ltb-true}
 use Rattle.device.specs.Effects.{Slots}
 use Rattle.layout.specs.declared.Head.{Head}
-use Rattle.layout.specs.Records.{part, all_zero, is_node, is_record, head_of, node_of, node_fields}
+use Rattle.layout.specs.Records.{head_of, node_of, node_fields}
 use Rattle.tree.specs.declared.Node.{Node}
-use Rattle.tree.specs.Nodes.{node_at, width_of, IsNode}
+use Rattle.tree.specs.Nodes.{IsNode}
 use Rattle.tree.specs.Cover.{In, Distinct}
-use Rattle.tree.proofs.Shapes.{node_from}
+use Rattle.chain.proofs.Chains.{some_node}
 use Rattle.chain.specs.Reading.{Link, Walk, Walk.broken, Walk.walked, File, File.bad_head, File.uncovered, File.sound, end_of, may_follow, consed, node_in, link_at, walk, lowest_from, judged, headed, file_of, slots_of}
 
 -- a record of the chain: in a slot of the device, read from there, a node of the tree that does not begin before `from`
@@ -26,24 +26,6 @@ pub slot_of : (j : ℕ) (xs : List Link) → In j (slots_of xs) → (x : Link) �
 slot_of j [] m = absurd m
 slot_of j (x ∷ xs) (inl q) = (x, inl refl, q)
 slot_of j (x ∷ xs) (inr m) = let r = slot_of j xs m in (r.0, inr r.1, r.2)
-
-tested_node : (d e p : ℕ) → is_node d e p ≡ true → IsNode d (node_at e p)
-tested_node d e p t =
-    let a = and_parts (leb e d) _ t in
-    let b = and_parts (ltb p (2 ^ d)) _ a.1 in
-    node_from d (width_of d e) (node_at e p) (leb-true _ _ a.0) refl (eqb-true _ _ b.1) (ltb-true _ _ b.0)
-
-some_test : {A : Type 0} (b : Bool) (x : A) → is_some (cond b (Some x) None) ≡ true → b ≡ true
-some_test true x e = refl
-some_test false x e = e
-
-node_laid : (d : ℕ) (bs : List ℕ) → is_some (node_of d bs) ≡ true → IsNode d (node_in bs)
-unfolding node_of
-node_laid d bs e =
-    let t = some_test (is_record d bs) (node_fields bs) e in
-    let q = and_parts (eqb (get_or bs 0 0) 2) _ t in
-    let r = and_parts (all_zero (part 6 26 bs)) _ q.1 in
-    tested_node d (get_or bs 1 0) (node_fields bs).first r.1
 
 -- one record before a chain
 onto : (d : ℕ) (s : Slots) (from : ℕ) (x : Link) (ys : List Link) → Standing d s from x → Chained d s (end_of d x.node) ys → Chained d s from (x ∷ ys)
@@ -88,7 +70,7 @@ walk_chained d s (suc k) from b last (suc i) xs e = ⊎_elim
     let c = walk_chained d s k (end_of d (node_in (get_or s (suc i) []))) (Some (node_in (get_or s (suc i) []))) (suc i) (node_fields (get_or s (suc i) [])).next r.0 r.1 in
     subst (Chained d s from) (sym r.2)
     (onto d s from (link_at s (suc i)) r.0
-    (record { above = omega arith; within = ltb-true _ _ t; link = refl; node = node_laid d (get_or s (suc i) []) a.0; after = leb-true _ _ o.0 }) c))
+    (record { above = omega arith; within = ltb-true _ _ t; link = refl; node = some_node d (get_or s (suc i) []) a.0; after = leb-true _ _ o.0 }) c))
     (λ (u : (is_some (node_of d (get_or s (suc i) [])) && may_follow d from b (node_in (get_or s (suc i) []))) ≡ false).
     let f : broken (suc i) ≡ walked xs = rw (t, u) at e in
     let z : ◌≡◌ {A = ℕ} 0 1 = cc in absurd (omega arith))

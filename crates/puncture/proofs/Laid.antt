@@ -11,18 +11,18 @@ use Rattle.steps.specs.OneStep.{Write, write_of, Stepped}
 use Rattle.steps.specs.Writes.{Ran}
 use Rattle.rules.specs.Files.{entry, new_writes}
 use Rattle.steps.proofs.Plans.{ran_none, ran_next, ran_cut, ran_as}
-use Rattle.puncture.specs.Laying.{open_slots, value_at, last_links, links_for, Able, Laid, all, cut}
+use Rattle.puncture.specs.Laying.{open_slots, last_links, links_for, Able, Laid, all, cut}
 use Rattle.puncture.proofs.Open.{First, first_is, none_left, left_over}
 
 -- of m nodes the last `m - left` are written
-pub record Going (s : Slots) (nodes : List Node) (row marks : List ℕ) (count last left from next : ℕ) (t : Slots) (on : Bool) : Type 0 where
+pub record Going (s : Slots) (nodes : List Node) (row : List (List ℕ)) (marks : List ℕ) (count last left from next : ℕ) (t : Slots) (on : Bool) : Type 0 where
   pub within : left ≤ length nodes
   pub rest : unmarked marks from (count - from) ≡ drop (length nodes - left) (open_slots marks count)
   pub leads : next ≡ entry (last_links (open_slots marks count) nodes row (length nodes) (length nodes - left)) last
   pub ran : Ran s (new_writes (last_links (open_slots marks count) nodes row (length nodes) (length nodes - left)) last) (Ok tt) t on
 
 -- the writes of the last n nodes come first
-more_writes : (us : List ℕ) (nodes : List Node) (row : List ℕ) (m last n k : ℕ) →
+more_writes : (us : List ℕ) (nodes : List Node) (row : List (List ℕ)) (m last n k : ℕ) →
     (ws : List Write) × (new_writes (last_links us nodes row m (n + k)) last ≡ new_writes (last_links us nodes row m n) last ++ ws)
 more_writes us nodes row m last n zero =
     let e : n + 0 ≡ n = omega arith in
@@ -31,20 +31,20 @@ more_writes us nodes row m last n (suc k) =
     let e : n + suc k ≡ suc (n + k) = omega arith in
     let r = more_writes us nodes row m last n k in
     let links = last_links us nodes row m (n + k) in
-    let w : Write = write_of (get_or us (n + k) 0) (encode_node (record { depth = (get_or nodes (m - suc (n + k)) root_node).depth; first = (get_or nodes (m - suc (n + k)) root_node).first; next = entry links last }) (value_at row (m - suc (n + k)))) NewRecord in (
+    let w : Write = write_of (get_or us (n + k) 0) (encode_node (record { depth = (get_or nodes (m - suc (n + k)) root_node).depth; first = (get_or nodes (m - suc (n + k)) root_node).first; next = entry links last }) (get_or row (m - suc (n + k)) [])) NewRecord in (
       r.0 ++ (w ∷ []),
       ap (λ (j : ℕ). new_writes (last_links us nodes row m j) last) e
           ∙ ap (λ (x : List Write). x ++ (w ∷ [])) r.1
           ∙ append_assoc (new_writes (last_links us nodes row m n) last) r.0 (w ∷ []),
     )
 
-pub begun : (s : Slots) (nodes : List Node) (row marks : List ℕ) (count last : ℕ) (on : Bool) → on ≡ true →
+pub begun : (s : Slots) (nodes : List Node) (row : List (List ℕ)) (marks : List ℕ) (count last : ℕ) (on : Bool) → on ≡ true →
     Going s nodes row marks count last (length nodes) 1 last s on
 begun s nodes row marks count last on o =
     let z : length nodes - length nodes ≡ 0 = omega arith in
     record { within = omega arith; rest = rw z; leads = rw z; ran = rw z (ran_none s s on refl o) }
 
-module _ {s : Slots} {nodes : List Node} {row marks : List ℕ} {count last left from next : ℕ} {t : Slots} {on : Bool}
+module _ {s : Slots} {nodes : List Node} {row : List (List ℕ)} {marks : List ℕ} {count last left from next : ℕ} {t : Slots} {on : Bool}
     (g : Going s nodes row marks count last left from next t on) where
   pub ended : left ≡ 0 → Laid s (links_for (open_slots marks count) nodes row) last (Ok next) t on
   ended z =
@@ -66,7 +66,7 @@ module _ {s : Slots} {nodes : List Node} {row marks : List ℕ} {count last left
       slot_small = omega (arith, first_open.low, first_open.high)
 
       abbrev record_here : Slot
-      record_here = encode_node (record { depth = (get_or nodes (left - 1) root_node).depth; first = (get_or nodes (left - 1) root_node).first; next = next }) (value_at row (left - 1))
+      record_here = encode_node (record { depth = (get_or nodes (left - 1) root_node).depth; first = (get_or nodes (left - 1) root_node).first; next = next }) (get_or row (left - 1) [])
 
       one_more : new_writes (last_links (open_slots marks count) nodes row (length nodes) (length nodes - left)) last ++ (write_of f record_here NewRecord ∷ [])
           ≡ new_writes (last_links (open_slots marks count) nodes row (length nodes) (length nodes - (left - 1))) last
@@ -84,7 +84,7 @@ module _ {s : Slots} {nodes : List Node} {row marks : List ℕ} {count last left
           (ran_next (write_of f b NewRecord) g.ran lt w)
 
       pub fails : (b : Slot) (h : Halt) (v : Slots) (on' : Bool) →
-          b ≡ encode_node (record { depth = (get_or nodes (left - 1) root_node).depth; first = (get_or nodes (left - 1) root_node).first; next = next }) (value_at row (left - 1)) →
+          b ≡ encode_node (record { depth = (get_or nodes (left - 1) root_node).depth; first = (get_or nodes (left - 1) root_node).first; next = next }) (get_or row (left - 1) []) →
           Stepped t on (write_of f b NewRecord) (Err h) v on' → Laid s (links_for (open_slots marks count) nodes row) last (Err h) v on'
       fails b h v on' e w =
           let n = length nodes - (left - 1) in
@@ -93,7 +93,7 @@ module _ {s : Slots} {nodes : List Node} {row marks : List ℕ} {count last left
           cut h refl (ran_as (sym m.1 ∙ ap (λ (j : ℕ). new_writes (last_links (open_slots marks count) nodes row (length nodes) j) last) q) (ran_cut m.0 (went b (Err h) v on' e w)))
 
       pub again : (b : Slot) (v : Slots) (on' : Bool) →
-          b ≡ encode_node (record { depth = (get_or nodes (left - 1) root_node).depth; first = (get_or nodes (left - 1) root_node).first; next = next }) (value_at row (left - 1)) →
+          b ≡ encode_node (record { depth = (get_or nodes (left - 1) root_node).depth; first = (get_or nodes (left - 1) root_node).first; next = next }) (get_or row (left - 1) []) →
           Stepped t on (write_of f b NewRecord) (Ok tt) v on' → Going s nodes row marks count last (left - 1) (f + 1) f v on'
       again b v on' e w =
           let a : length nodes - (left - 1) ≡ suc (length nodes - left) = omega (arith, g.within) in

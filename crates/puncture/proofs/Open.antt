@@ -1,12 +1,14 @@
 -- Slots without a mark: the first of them, how they rise, and how many there are beside a chain.
 use Rattle.std.proofs.Common.{◌≡◌, ℕ, zero, suc, ◌+◌, ◌-◌, ◌<◌, ◌≤◌, Bool, true, false, List, [], ◌∷◌, length, get_or, drop, Some, None, sym, refl, ap, ◌∙◌, subst, inl, inr, ⊎_elim, arith}
-use Rattle.std.proofs.lemmas.Bool.{cases_Bool, cases_lt, cases_eq}
+use Rattle.std.proofs.lemmas.Bool.{cases_Bool, cases_eq}
 use Rattle.std.proofs.lemmas.List.{length-replicate}
 use Rattle.octets.specs.Buffers.{zeros}
 use Rattle.tree.specs.Cover.{In, Distinct}
+use Rattle.marks.proofs.Laws.{mark_laws}
 use Rattle.marks.specs.Rows.{room_of, is_marked, with_mark, MarkLaws, listed, unmarked, first_of}
 use Rattle.chain.specs.Reading.{Link, slots_of}
 use Rattle.chain.specs.Listing.{marked_all}
+use Rattle.chain.proofs.Frees.{sum_unmarked, all_unmarked}
 use Rattle.puncture.specs.Laying.{backward}
 
 -- ---- the first
@@ -107,58 +109,15 @@ pub length_backward : (us : List ℕ) (n : ℕ) → length (backward us n) ≡ n
 length_backward us zero = refl
 length_backward us (suc n) = ap suc (length_backward us n)
 
--- ---- how many there are
+-- ---- how many there are: each record of a chain takes one slot
+pub open_count : (m : ℕ) (xs : List Link) (c : ℕ) → room_of c ≤ m → Distinct (slots_of xs) → ((f : ℕ) → In f (slots_of xs) → (0 < f) × (f < c)) →
+    length (unmarked (marked_all (zeros m) xs) 1 (c - 1)) + length xs ≡ c - 1
+open_count m xs c r a f =
+    let l : room_of c ≤ length (zeros m) = subst (λ (k : ℕ). room_of c ≤ k) (sym (length-replicate m 0)) r in
+    sum_unmarked c xs (zeros m) l f a (λ k i. mark_laws.none m k) ∙ all_unmarked (c - 1) 1 m
+
+-- ---- the slots of the chain are marked
 module _ (laws : MarkLaws) where
-  stays : (row : List ℕ) (p i n : ℕ) → p < i → unmarked (with_mark row p) i n ≡ unmarked row i n
-  stays row p i zero l = refl
-  stays row p i (suc n) l = let e = laws.other row p i (λ q. omega arith) in rw (e, stays row p (suc i) n (omega arith))
-
-  one_less_listed : (b : Bool) (i : ℕ) (us vs : List ℕ) → length us + 1 ≡ length vs → length (listed b i us) + 1 ≡ length (listed b i vs)
-  one_less_listed true i us vs e = e
-  one_less_listed false i us vs e = omega arith
-
-  one_less : (row : List ℕ) (c p i n : ℕ) → room_of c ≤ length row → p < c → is_marked row p ≡ false → i ≤ p → p < i + n →
-      length (unmarked (with_mark row p) i n) + 1 ≡ length (unmarked row i n)
-  one_less row c p i zero r h t l u = absurd (omega arith)
-  one_less row c p i (suc n) r h t l u = ⊎_elim
-      (λ (e : i ≡ p).
-      let a : is_marked (with_mark row p) i ≡ true = subst (λ (k : ℕ). is_marked (with_mark row p) k ≡ true) (sym e) (laws.same row c p r h) in
-      let b : is_marked row i ≡ false = subst (λ (k : ℕ). is_marked row k ≡ false) (sym e) t in
-      let q = stays row p (suc i) n (omega arith) in
-      rw (a, b, q) (omega arith))
-      (λ (e : i ≡ p → ⊥).
-      let a = laws.other row p i e in
-      let lt : i < p = ⊎_elim (λ (z : i < p). z) (λ (z : p ≤ i). absurd (e (omega arith))) (cases_lt i p) in
-      rw a (one_less_listed (is_marked row i) i (unmarked (with_mark row p) (suc i) n) (unmarked row (suc i) n) (one_less row c p (suc i) n r h t (omega arith) (omega arith))))
-      (cases_eq i p)
-
-  none_marked : (m i n : ℕ) → length (unmarked (zeros m) i n) ≡ n
-  none_marked m i zero = refl
-  none_marked m i (suc n) = let e = laws.none m i in rw e (ap suc (none_marked m (suc i) n))
-
-  marked_long : (row : List ℕ) (xs : List Link) → length (marked_all row xs) ≡ length row
-  marked_long row [] = refl
-  marked_long row (x ∷ xs) = marked_long (with_mark row x.slot) xs ∙ laws.long row x.slot
-
-  -- each record of a chain takes one slot
-  fewer : (row : List ℕ) (xs : List Link) (c : ℕ) → room_of c ≤ length row → Distinct (slots_of xs) → ((f : ℕ) → In f (slots_of xs) → (0 < f) × (f < c) × (is_marked row f ≡ false)) →
-      length (unmarked (marked_all row xs) 1 (c - 1)) + length xs ≡ length (unmarked row 1 (c - 1))
-  fewer row [] c r a f = omega arith
-  fewer row (x ∷ xs) c r a f =
-      let p = x.slot in
-      let h = f p (inl refl) in
-      let l : room_of c ≤ length (with_mark row p) = subst (λ (k : ℕ). room_of c ≤ k) (sym (laws.long row p)) r in
-      let o = one_less row c p 1 (c - 1) r h.1 h.2 (omega (arith, h.0)) (omega (arith, h.0, h.1)) in
-      let i = fewer (with_mark row p) xs c l a.1
-      (λ k m. ((f k (inr m)).0, (f k (inr m)).1, laws.other row p k (λ q. a.0 (subst (λ (z : ℕ). In z (slots_of xs)) q m)) ∙ (f k (inr m)).2)) in
-      omega (arith, o, i)
-
-  pub open_count : (m : ℕ) (xs : List Link) (c : ℕ) → room_of c ≤ m → Distinct (slots_of xs) → ((f : ℕ) → In f (slots_of xs) → (0 < f) × (f < c)) →
-      length (unmarked (marked_all (zeros m) xs) 1 (c - 1)) + length xs ≡ c - 1
-  open_count m xs c r a f =
-      let l : room_of c ≤ length (zeros m) = subst (λ (k : ℕ). room_of c ≤ k) (sym (length-replicate m 0)) r in
-      fewer (zeros m) xs c l a (λ k i. ((f k i).0, (f k i).1, laws.none m k)) ∙ none_marked m 1 (c - 1)
-
   -- what is marked stays marked
   kept_mark : (row : List ℕ) (p k c : ℕ) → room_of c ≤ length row → p < c → is_marked row k ≡ true → is_marked (with_mark row p) k ≡ true
   kept_mark row p k c r h t = ⊎_elim

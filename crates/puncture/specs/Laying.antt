@@ -1,12 +1,11 @@
 -- The new records of a puncture: which slots they take, and what writing them answers.
-use Rattle.std.specs.Prelude.{◌≡◌, ℕ, zero, suc, ◌-◌, ◌*◌, ◌≤◌, Bool, true, List, [], ◌∷◌, length, take, drop, Ok, Err, Result, slice_index, slice_index_or}
+use Rattle.std.specs.Prelude.{◌≡◌, ℕ, zero, suc, ◌-◌, ◌≤◌, Bool, true, List, [], ◌∷◌, length, Ok, Err, Result, slice_index, slice_index_or}
 use Rattle.device.specs.Effects.{Slots}
 use Rattle.fault.specs.declared.Halt.{Halt}
 use Rattle.tree.specs.declared.Node.{Node}
 use Rattle.tree.specs.Nodes.{root_node}
 use Rattle.marks.specs.Rows.{unmarked}
 use Rattle.chain.specs.Reading.{Link}
-use Rattle.rules.specs.Kits.{value_length}
 use Rattle.steps.specs.Writes.{Ran}
 use Rattle.rules.specs.Files.{entry, new_writes}
 
@@ -19,17 +18,13 @@ abbrev pub backward : List ℕ → ℕ → List ℕ
 backward us zero = []
 backward us (suc n) = slice_index us n ∷ backward us n
 
--- value j of a row
-abbrev pub value_at : List ℕ → ℕ → List ℕ
-value_at row j = take value_length (drop (value_length * j) row)
-
 -- the last n of m nodes with the values of a row, each in a slot of us: the last node in the first slot, and so on
-abbrev pub last_links : List ℕ → List Node → List ℕ → ℕ → ℕ → List Link
+abbrev pub last_links : List ℕ → List Node → List (List ℕ) → ℕ → ℕ → List Link
 last_links us nodes row m zero = []
 last_links us nodes row m (suc n) =
-    record { slot = slice_index us n; node = slice_index_or nodes (m - suc n) root_node; value = value_at row (m - suc n) } ∷ last_links us nodes row m n
+    record { slot = slice_index us n; node = slice_index_or nodes (m - suc n) root_node; value = slice_index_or row (m - suc n) [] } ∷ last_links us nodes row m n
 
-abbrev pub links_for : List ℕ → List Node → List ℕ → List Link
+abbrev pub links_for : List ℕ → List Node → List (List ℕ) → List Link
 links_for us nodes row = last_links us nodes row (length nodes) (length nodes)
 
 -- the power is on, the device has that many slots, and m of them are open

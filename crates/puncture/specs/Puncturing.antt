@@ -1,35 +1,30 @@
 -- What a puncture is given, and what it does.
-use Rattle.std.specs.Prelude.{◌≡◌, ℕ, ◌-◌, ◌*◌, ◌≤◌, Bool, true, List, ◌∷◌, ◌++◌, length, Result}
-use Rattle.octets.specs.Buffers.{zeros, filled}
+use Rattle.std.specs.Prelude.{◌≡◌, ℕ, ◌-◌, ◌≤◌, Bool, true, List, ◌∷◌, ◌++◌, length, Result}
+use Rattle.octets.specs.Buffers.{zeros}
 use Rattle.device.specs.Effects.{Slots}
 use Rattle.fault.specs.declared.Halt.{Halt}
-use Rattle.tree.specs.Nodes.{most_levels, Covers}
-use Rattle.tree.specs.Values.{Expansion, sibling_values}
+use Rattle.tree.specs.Nodes.{Covers}
+use Rattle.tree.specs.Values.{sibling_values}
+use Rattle.generator.specs.Descent.{row_of}
 use Rattle.marks.specs.Rows.{room_of}
 use Rattle.chain.specs.declared.Found.{Found}
 use Rattle.chain.specs.Reading.{Link, file_of, sound}
 use Rattle.chain.specs.Listing.{between, marked_all}
-use Rattle.rules.specs.Kits.{Kit, value_length}
+use Rattle.rules.specs.Kits.{Kit}
 use Rattle.steps.specs.Writes.{Ran}
 use Rattle.rules.specs.Files.{last_slot, redeem_writes, FreeSlots, free_count}
 use Rattle.rules.specs.Calls.{Sound, new_links}
 
--- children's values are as long as their parent's
-pub record Lengthwise (e : Expansion) : Type 0 where
-  pub on_left : (v : List ℕ) → length v ≡ value_length → length (e.left v) ≡ value_length
-  pub on_right : (v : List ℕ) → length v ≡ value_length → length (e.right v) ≡ value_length
-
 -- the file f stands in the slots; x, between front and back, is its record over n, and was found; the row holds the values of the
 -- siblings on the way down to n; just the chain's slots are marked; and there are free slots for the siblings
-pub record Given (k : Kit) (d : ℕ) (s : Slots) (on : Bool) (count : ℕ) (found : Found) (n : ℕ) (row marks : List ℕ) (f : Sound) (front : List Link) (x : Link) (back : List Link) : Type 0 where
+pub record Given (k : Kit) (d : ℕ) (s : Slots) (on : Bool) (count : ℕ) (found : Found) (n : ℕ) (row : List (List ℕ)) (marks : List ℕ) (f : Sound) (front : List Link) (x : Link) (back : List Link) : Type 0 where
   pub power : on ≡ true
   pub size : length s ≡ count
   pub file : file_of d k.generator k.sealer s ≡ sound f.0 f.1
   pub chain : f.1 ≡ front ++ (x ∷ back)
   pub finds : found ≡ between (last_slot 0 front) x back
   pub covers : Covers d x.node n
-  pub long : Lengthwise k.expansion
-  pub kept : row ≡ filled (sibling_values k.expansion d x.node x.value n) (most_levels * value_length)
+  pub kept : row ≡ row_of (sibling_values k.expansion d x.node x.value n)
   pub wide : room_of count ≤ length marks
   pub marked : marks ≡ marked_all (zeros (length marks)) f.1
   pub room : d - x.node.depth ≤ free_count s f.1

@@ -5,50 +5,47 @@
 
 ghost use Rattle.std.specs.Prelude.{◌≡◌, ℕ, ◌^◌, ◌<◌, ◌≤◌, true, List, [], length, get_or, replicate, slice_index_or};
 ghost use Rattle.tree.specs.Nodes.{tree_levels, most_levels, root_node};
-ghost use Rattle.layout.specs.Records.{encode_node};
+ghost use Rattle.layout.specs.Records.{encode_node, relinked};
 ghost use Rattle.fault.specs.declared.Step.TheVariants.{Join as JoinStep};
 ghost use Rattle.chain.specs.Reading.{Link};
 ghost use Rattle.rules.specs.Kits.{Kit};
 ghost use Rattle.steps.specs.OneStep.{write_of, Stepped};
-ghost use Rattle.rules.specs.Files.{relinked};
 ghost use Rattle.rules.specs.Calls.{Sound};
-ghost use Rattle.puncture.specs.Laying.{open_slots, value_at, links_for, Able, Laid};
+ghost use Rattle.puncture.specs.Laying.{open_slots, links_for, Able, Laid};
 ghost use Rattle.puncture.specs.Puncturing.{Given, Puncturing};
 
 use chain::Found;
 use device::{ReadSlots, WriteSlots};
 use fault::{Halt, Step};
-use layout::{NodeFields, encode_node};
+use generator::Value;
+use layout::{NodeFields, encode_node, relink};
 use marks::first_unmarked;
-use octets::{Wiped, put_u16};
+use octets::Wiped;
 use refusal::Refusal;
 use steps::{read_at, write_at};
 use tree::{LEVELS, Node, ROW};
 
-// Lays out the record of a node with value `k` of the row.
-fn lay_record(node: &Node, row: &[u8; 768], k: usize, next: u16, slot: &mut [u8; 64])
-    requires { (k < most_levels) × (node.now.first < 2 ^ 16) }
-    ensures { slot.new ≡ encode_node (record { depth = node.now.depth; first = node.now.first; next = next }) (value_at row.now k) }
+// Lays out the record of a node with its value.
+fn lay_record(node: &Node, value: &Value, next: u16, slot: &mut [u8; 64])
+    requires { node.now.first < 2 ^ 16 }
+    ensures { slot.new ≡ encode_node (record { depth = node.now.depth; first = node.now.first; next = next }) value.now }
 {
-    encode_node(
-        &NodeFields {
-            depth: node.depth,
-            first: node.first as u16,
-            next,
-        },
-        &[0; 32],
-        slot,
-    );
-    slot[32..64].copy_from_slice(&row[32 * k..32 * k + 32]);
+    let fields = NodeFields {
+        depth: node.depth,
+        first: node.first as u16,
+        next,
+    };
+    encode_node(&fields, value, slot);
 }
 
 // Writes the nodes' records to slots without a mark, from the last to the first, each leading on to the one written before
-// it and the last to `last`, and answers the slot of the first.
+// it and the last to `last`, and answers the slot of the first. It goes by the place that a node and its value share: over the
+// two zipped and from the back the proof did not close.
 fn write_records<D: WriteSlots>(
     d: &mut D,
     count: u16,
     nodes: &[Node],
-    row: &[u8; 768],
+    row: &[Value; ROW],
     marks: &[u8],
     last: u16,
     slot: &mut [u8; 64],
@@ -58,13 +55,11 @@ fn write_records<D: WriteSlots>(
 {
     let mut next = last;
     let mut from = 1;
-    let mut left = nodes.len();
-    while left > 0 {
+    for k in (0..nodes.len()).rev() {
         let Some(free) = first_unmarked(marks, from, count as usize) else {
             return Err(Halt::plain(Refusal::NoFreeSlot));
         };
-        left -= 1;
-        lay_record(&nodes[left], row, left, next, slot);
+        lay_record(&nodes[k], &row[k], next, slot);
         next = free as u16;
         write_at(d, next, slot, Step::NewRecord)?;
         from = next as usize + 1;
@@ -77,7 +72,7 @@ fn join<D: WriteSlots>(d: &mut D, before: u16, first: u16, slot: &mut [u8; 64]) 
     ensures { before < length (D.ReadSlots.slots d.old) → D.ReadSlots.powered d.old ≡ true → Stepped (D.ReadSlots.slots d.old) (D.ReadSlots.powered d.old) (write_of before (relinked first (slice_index_or (D.ReadSlots.slots d.old) before [])) JoinStep) result (D.ReadSlots.slots d.new) (D.ReadSlots.powered d.new) }
 {
     read_at(d, before, slot)?;
-    put_u16(slot, 4, first);
+    relink(slot, first);
     write_at(d, before, slot, Step::Join)
 }
 
@@ -89,7 +84,7 @@ pub fn puncture<D: WriteSlots>(
     count: u16,
     found: &Found,
     n: u32,
-    row: &[u8; 768],
+    row: &[Value; ROW],
     marks: &[u8],
     slot: &mut [u8; 64],
 ) -> Result<(), Halt>
@@ -97,11 +92,18 @@ pub fn puncture<D: WriteSlots>(
     ensures clean { slot.new ≡ replicate 64 0 }
 {
     let guard = Wiped { pad: slot };
-    let mut nodes = [Node { depth: 0, first: 0 }; ROW];
-    let Some(many) = found.node.siblings(LEVELS, n, &mut nodes) else {
+    let Some(siblings) = found.node.siblings(LEVELS, n) else {
         return Err(Halt::at(Refusal::Spent, n));
     };
-    let first = write_records(d, count, &nodes[0..many], row, marks, found.next, guard.pad)?;
+    let first = write_records(
+        d,
+        count,
+        siblings.as_slice(),
+        row,
+        marks,
+        found.next,
+        guard.pad,
+    )?;
     join(d, found.before, first, guard.pad)?;
     write_at(d, found.slot, &[0; 64], Step::Erasure)
 }

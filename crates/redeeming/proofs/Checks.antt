@@ -1,6 +1,5 @@
 -- The checks of a redemption, as its verdict has them.
-use Rattle.std.proofs.Common.{◌≡◌, ℕ, ◌<◌, ◌≤◌, Bool, true, false, cond, ◌&&◌, eqb, ltb, leb, List, [], ◌∷◌, length, take, drop, Some, Ok, Err, Option, Result, sym, refl, ap, ◌∙◌, subst, ap₂, ⊎_elim, arith}
-use Rattle.std.proofs.lemmas.List.{take_all, length-drop}
+use Rattle.std.proofs.Common.{◌≡◌, ℕ, ◌<◌, ◌≤◌, Bool, true, false, cond, ◌&&◌, eqb, ltb, leb, List, [], ◌∷◌, length, Some, None, Ok, Err, Option, Result, sym, refl, ap, ◌∙◌, subst, ap₂, ⊎_elim, arith}
 use Rattle.std.proofs.lemmas.Bool.{cases_Bool, and_parts, and_from, leb-true, eqb-true, eq-eqb, lt-ltb, le-ltb}
 use Rattle.octets.specs.Buffers.{zeros}
 use Rattle.refusal.specs.declared.Refusal.TheVariants.{TicketLength}
@@ -8,16 +7,15 @@ use Rattle.device.specs.Effects.{Slots}
 use Rattle.fault.specs.declared.Halt.{Halt}
 use Rattle.fault.specs.declared.Step.TheVariants.{Read}
 use Rattle.fault.specs.Faults.{plainly, unpowered}
-use Rattle.layout.specs.Records.{value_of}
 use Rattle.marks.specs.Rows.{room_of}
 use Rattle.chain.specs.declared.Survey.{Survey}
 use Rattle.chain.specs.Reading.{File, File.bad_head, File.bad_link, File.uncovered, File.sound, file_of}
 use Rattle.chain.specs.Listing.{find_in, marked_all}
-use Rattle.chain.specs.Outcome.{declined, judged_as, reading_of, answer_of, marks_of}
+use Rattle.chain.specs.Outcome.{declined, judged_as, reading_of, asked_of, answer_of, marks_of}
 use Rattle.rules.specs.Kits.{Kit, heading_length}
 use Rattle.rules.specs.Tickets.{number_in, ticket_least, ticket_longest}
 use Rattle.rules.specs.Calls.{Sound, read_as, read_by, same_bytes, redeemable, Fitting}
-use Rattle.redeeming.specs.Steps.{roomy, Entering, enters, unfit, passing, Surveying, tells, halted}
+use Rattle.redeeming.specs.Steps.{roomy, ticket_fits, Entering, enters, unfit, passing, Surveying, tells, halted}
 
 -- ---- bytes
 bytes_same : (xs ys : List ℕ) → same_bytes xs ys ≡ true → xs ≡ ys
@@ -42,14 +40,19 @@ decides_same false xs ys f g = ⊎_elim
     (λ (t : same_bytes xs ys ≡ false). sym t)
     (cases_Bool (same_bytes xs ys))
 
-pub value_copied : (slot out : List ℕ) → length slot ≡ 64 → out ≡ take 32 (drop 32 slot) → out ≡ value_of slot
-unfolding value_of
-value_copied slot out l e = e ∙ take_all 32 (drop 32 slot) (let d = length-drop 32 slot in omega arith)
-
 -- ---- buffers and slots
 pub entered : (d : ℕ) (s : Slots) (room m : ℕ) (r : Result ℕ Halt) → roomy s room m ≡ true → Fitting d s r → Entering d s room m r
 entered d s room m (Ok n) t f = enters n refl f.1 t f.0
 entered d s room m (Err h) t f = unfit (ap Err f.1) t f.0
+
+-- ---- which tickets there are
+pub not_of : (b : Bool) (o : Option (List ℕ)) (t : List ℕ) → o ≡ cond b (Some t) None → o ≡ None → b ≡ false
+not_of true o t e n = let z : ◌≡◌ {A = Option (List ℕ)} (Some t) None = sym e ∙ n in cc
+not_of false o t e n = refl
+
+pub is_of : (b : Bool) (o : Option (List ℕ)) (t u : List ℕ) → o ≡ cond b (Some t) None → o ≡ Some u → (b ≡ true) × (u ≡ t)
+is_of true o t u e n = let z : ◌≡◌ {A = Option (List ℕ)} (Some u) (Some t) = sym n ∙ e in (refl, cc)
+is_of false o t u e n = let z : ◌≡◌ {A = Option (List ℕ)} (Some u) None = sym n ∙ e in cc
 
 -- ---- what passes has a heading
 cond_ok : (c : Bool) (u : Result Sound Halt) (e : Halt) (f : Sound) → cond c u (Err e) ≡ Ok f → (c ≡ true) × (u ≡ Ok f)
@@ -76,15 +79,15 @@ judged_err d n (uncovered i) h e = ap Err (sym (err_same e))
 judged_err d n (sound k xs) h e = let z : ◌≡◌ {A = ℕ} 0 1 = cc in absurd (omega arith)
 
 -- what a reading that succeeds tells
-pub record Told (d : ℕ) (n : ℕ) (m : ℕ) (f : File) (v : Survey) (marks : List ℕ) : Type 0 where
+pub record Told (d : ℕ) (n : Option ℕ) (m : ℕ) (f : File) (v : Survey) (marks : List ℕ) : Type 0 where
   pub file : Sound
   pub is : f ≡ sound file.0 file.1
   pub head : v.head ≡ file.0
   pub many : v.length ≡ length file.1
-  pub finds : v.found ≡ find_in d n 0 file.1
+  pub finds : v.found ≡ find_in d (asked_of n file.0) 0 file.1
   pub marked : marks ≡ marked_all (zeros m) file.1
 
-judged_ok : (d n m : ℕ) (f : File) (v : Survey) (marks : List ℕ) → Ok v ≡ answer_of d (Some n) (judged_as f) → marks ≡ marks_of m (judged_as f) → Told d n m f v marks
+judged_ok : (d : ℕ) (n : Option ℕ) (m : ℕ) (f : File) (v : Survey) (marks : List ℕ) → Ok v ≡ answer_of d n (judged_as f) → marks ≡ marks_of m (judged_as f) → Told d n m f v marks
 judged_ok d n m bad_head v marks e q = let z : ◌≡◌ {A = ℕ} 0 1 = cc in absurd (omega arith)
 judged_ok d n m (bad_link i) v marks e q = let z : ◌≡◌ {A = ℕ} 0 1 = cc in absurd (omega arith)
 judged_ok d n m (uncovered i) v marks e q = let z : ◌≡◌ {A = ℕ} 0 1 = cc in absurd (omega arith)
@@ -122,18 +125,18 @@ module _ (k : Kit) (d g w m : ℕ) (s : Slots) (on : Bool) (eg : k.generator ≡
   pub survey_err : (ticket : List ℕ) (n : Option ℕ) (h : Halt) (marks : List ℕ) → Err h ≡ answer_of d n (reading_of d g w m s on) → Surveying k d s on ticket m (Err h) marks
   survey_err ticket n h marks e = halted h refl (ap (redeemable k ticket) (read_err n h e))
 
-  read_ok : (n : ℕ) (v : Survey) (marks : List ℕ) → Ok v ≡ answer_of d (Some n) (reading_of d g w m s on) → marks ≡ marks_of m (reading_of d g w m s on) →
+  read_ok : (n : Option ℕ) (v : Survey) (marks : List ℕ) → Ok v ≡ answer_of d n (reading_of d g w m s on) → marks ≡ marks_of m (reading_of d g w m s on) →
       (on ≡ true) × Told d n m (file_of d g w s) v marks
   read_ok n v marks e q = ⊎_elim
       (λ (o : on ≡ true).
       let r : reading_of d g w m s on ≡ judged_as (file_of d g w s) = reading_is ∙ ap (λ (b : Bool). cond b (judged_as (file_of d g w s)) (declined (unpowered 0 Read))) o in
-      (o, judged_ok d n m (file_of d g w s) v marks (e ∙ ap (answer_of d (Some n)) r) (q ∙ ap (marks_of m) r)))
+      (o, judged_ok d n m (file_of d g w s) v marks (e ∙ ap (answer_of d n) r) (q ∙ ap (marks_of m) r)))
       (λ (o : on ≡ false).
-      let f : Ok v ≡ Err (unpowered 0 Read) = e ∙ ap (answer_of d (Some n)) (reading_is ∙ ap (λ (b : Bool). cond b (judged_as (file_of d g w s)) (declined (unpowered 0 Read))) o) in
+      let f : Ok v ≡ Err (unpowered 0 Read) = e ∙ ap (answer_of d n) (reading_is ∙ ap (λ (b : Bool). cond b (judged_as (file_of d g w s)) (declined (unpowered 0 Read))) o) in
       let z : ◌≡◌ {A = ℕ} 0 1 = cc in absurd (omega arith))
       (cases_Bool on)
 
-  module _ (ticket : List ℕ) (n : ℕ) (v : Survey) (marks : List ℕ) (e : Ok v ≡ answer_of d (Some n) (reading_of d g w m s on)) (q : marks ≡ marks_of m (reading_of d g w m s on)) where
+  module _ (ticket : List ℕ) (n : Option ℕ) (v : Survey) (marks : List ℕ) (e : Ok v ≡ answer_of d n (reading_of d g w m s on)) (q : marks ≡ marks_of m (reading_of d g w m s on)) where
     telling : (on ≡ true) × Told d n m (file_of d g w s) v marks
     telling = read_ok n v marks e q
 
@@ -143,17 +146,20 @@ module _ (k : Kit) (d g w m : ℕ) (s : Slots) (on : Bool) (eg : k.generator ≡
     pub check_err : (h : Halt) → ((f : Sound) → f.0 ≡ v.head → redeemable k ticket (Ok f) ≡ passing (Err h) f) → Surveying k d s on ticket m (Err h) marks
     check_err h c = halted h refl (ap (redeemable k ticket) by_is ∙ c telling.1.file (sym telling.1.head))
 
-    pub check_ok : ((f : Sound) → f.0 ≡ v.head → redeemable k ticket (Ok f) ≡ passing (Ok tt) f) → (heading_length ≤ length ticket → n ≡ number_in ticket) → Surveying k d s on ticket m (Ok v) marks
+    -- a ticket of no length that this sealer's can have
+    pub unfitting : ticket_fits k.overhead (length ticket) ≡ false → Surveying k d s on ticket m (Err (plainly TicketLength)) marks
+    unfitting t = check_err (plainly TicketLength) (λ f q. rw t refl)
+
+    pub check_ok : ((f : Sound) → f.0 ≡ v.head → redeemable k ticket (Ok f) ≡ passing (Ok tt) f) → n ≡ Some (number_in ticket) → Surveying k d s on ticket m (Ok (ticket, v)) marks
     check_ok c number =
         let f = telling.1.file in
         let p = c f (sym telling.1.head) in
-        let l = with_heading k ticket f f p in
         tells v f refl (record {
           passed = ap (redeemable k ticket) by_is ∙ p;
           power = telling.0;
           reads = file_is ∙ telling.1.is;
-          heading = l;
+          heading = with_heading k ticket f f p;
           many = telling.1.many;
-          finds = telling.1.finds ∙ ap (λ (j : ℕ). find_in d j 0 f.1) (number l);
+          finds = telling.1.finds ∙ ap (λ (j : Option ℕ). find_in d (asked_of j f.0) 0 f.1) number;
           marked = telling.1.marked;
         })

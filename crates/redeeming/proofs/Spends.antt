@@ -1,5 +1,6 @@
 -- A redemption, from its steps.
 use Rattle.std.proofs.Common.{◌≡◌, ℕ, ◌-◌, ◌<◌, ◌≤◌, Bool, true, false, ltb, leb, List, [], ◌∷◌, length, Some, None, Ok, Err, Result, sym, refl, ap, ◌∙◌, subst, inl, inr, arith}
+use Rattle.std.specs.Result.{is_err}
 use Rattle.std.proofs.lemmas.Bool.{and_parts, leb-true}
 use Rattle.octets.specs.Buffers.{zeros}
 use Rattle.refusal.specs.declared.Refusal.TheVariants.{Spent, NoFreeSlot}
@@ -20,17 +21,15 @@ use Rattle.chain.specs.Reading.{Link}
 use Rattle.chain.specs.Listing.{between, marked_all}
 use Rattle.chain.specs.Sound.{nodes_of, last_slot as last_of}
 use Rattle.chain.proofs.Finds.{found_at, none_at}
-use Rattle.rules.specs.Kits.{Kit, heading_length}
+use Rattle.rules.specs.Kits.{Kit}
 use Rattle.rules.specs.Tickets.{number_in, heading_in, sealed_in}
 use Rattle.steps.specs.Writes.{through, failed}
 use Rattle.rules.specs.Files.{last_slot, free_count}
 use Rattle.rules.specs.Calls.{Sound, Outcome, kept, slots_least, count_fits, read_by, redeemable, redeem_verdict, Seals, Ready, Untouched, Redeeming, declined, spent, shut, strange, full, cut, opened}
-use Rattle.puncture.specs.Puncturing.{Lengthwise, Given, Puncturing}
+use Rattle.puncture.specs.Puncturing.{Given, Puncturing}
+use Rattle.puncture.proofs.Done.{clash}
 use Rattle.puncture.proofs.Files.{sound_chain}
 use Rattle.redeeming.specs.Steps.{roomy, Entering, enters, short, unfit, Known, Surveying, tells, halted, Met, Derived, Unsealing, no_plain, no_record, a_record, Spotted}
-
-err_ok : {A B : Type 0} (a : A) (b : B) → ◌≡◌ {A = Result A B} (Err b) (Ok a) → ⊥
-err_ok a b e = let z : ◌≡◌ {A = ℕ} 0 1 = cc in omega arith
 
 err_same : {A : Type 0} {x y : Halt} → ◌≡◌ {A = Result A Halt} (Err x) (Err y) → x ≡ y
 err_same e = cc
@@ -61,7 +60,7 @@ module _ {k : Kit} {d : ℕ} {s : Slots} {on : Bool} {ticket : List ℕ} {room c
   free_is : count - 1 - many ≡ free_count s f.1
   free_is = omega (arith, z.size, z.records)
 
-  module _ (n : ℕ) (en : n ≡ number_in ticket) (key row : List ℕ) (calls : ℕ) (w : Derived k.expansion d n x (Ok calls) key row) where
+  module _ (n : ℕ) (en : n ≡ number_in ticket) (key : List ℕ) (row : List (List ℕ)) (calls : ℕ) (w : Derived k.expansion d n x (Ok calls) key row) where
     key_is : key ≡ key_from k.expansion d x.node x.value (number_in ticket)
     key_is = w.keyed ∙ ap (key_from k.expansion d x.node x.value) en
 
@@ -81,23 +80,22 @@ module _ {k : Kit} {d : ℕ} {s : Slots} {on : Bool} {ticket : List ℕ} {room c
         (joined : Bool) × Redeeming k d s on ticket room (length marks) (Err h) (zeros room) s on joined
     stopped (no_plain none e) = (false, shut f front x back z.hit (λ plain p. none plain (unseals plain p)) (ap Err (err_same e)) still refl)
     stopped (no_record plain p t e) = (false, strange f front x back plain z.hit (seals plain p) t (ap Err (err_same e)) still refl)
-    stopped (a_record plain p t e q) = absurd (err_ok _ _ e)
+    stopped (a_record plain p t e q) = absurd (clash _ _ e)
 
     pub no_slot : {l : ℕ} {out : List ℕ} → Unsealing (k.sealing key (heading_in ticket)) (sealed_in ticket) (number_in ticket) room (Ok l) out → count - 1 - many < calls →
         (joined : Bool) × Redeeming k d s on ticket room (length marks) (Err (placed NoFreeSlot n)) (zeros room) s on joined
-    no_slot (no_plain none e) lt = absurd (err_ok _ _ (sym e))
-    no_slot (no_record plain p t e) lt = absurd (err_ok _ _ (sym e))
+    no_slot (no_plain none e) lt = absurd (clash _ _ (sym e))
+    no_slot (no_record plain p t e) lt = absurd (clash _ _ (sym e))
     no_slot (a_record plain p t e q) lt = (false, full f front x back plain z.hit (seals plain p) t (omega (arith, free_is, calls_are)) (ap (λ (j : ℕ). Err (placed NoFreeSlot j)) en) still refl)
 
-    pub gives : Lengthwise k.expansion → calls ≤ count - 1 - many → Given k d s on count found n row marks f front x back
-    gives long le = record {
+    pub gives : calls ≤ count - 1 - many → Given k d s on count found n row marks f front x back
+    gives le = record {
       power = z.power;
       size = z.size;
       file = z.reads;
       chain = z.hit.chain;
       finds = z.finds;
       covers = subst (Covers d x.node) (sym en) z.hit.covers;
-      long = long;
       kept = w.beside;
       wide = z.wide;
       marked = z.marked;
@@ -110,26 +108,26 @@ module _ {k : Kit} {d : ℕ} {s : Slots} {on : Bool} {ticket : List ℕ} {room c
 
     pub failed_at : {l : ℕ} {out : List ℕ} {h : Halt} {t : Slots} {on' : Bool} → Unsealing (k.sealing key (heading_in ticket)) (sealed_in ticket) (number_in ticket) room (Ok l) out → calls ≤ count - 1 - many →
         Puncturing k d s f front x back n (Err h) t on' → (joined : Bool) × Redeeming k d s on ticket room (length marks) (Err h) (zeros room) t on' joined
-    failed_at (no_plain none e) le p = absurd (err_ok _ _ (sym e))
-    failed_at (no_record plain q t e) le p = absurd (err_ok _ _ (sym e))
+    failed_at (no_plain none e) le p = absurd (clash _ _ (sym e))
+    failed_at (no_record plain q t e) le p = absurd (clash _ _ (sym e))
     failed_at {h = h} {t = u} {on' = on'} (a_record plain q t e b) le p' =
         let p = subst (λ (j : ℕ). Puncturing k d s f front x back j (Err h) u on') en p' in
         elim p.ran [
-          | through e' a o ↦ absurd (err_ok _ _ e')
+          | through e' a o ↦ absurd (clash _ _ e')
           | failed m h' e' c o ↦
               (ltb (d - x.node.depth) m, cut f front x back plain p.taken m h' z.hit (seals plain q) (ready plain t le p) c (ap Err (err_same e')) o refl refl)
         ]
 
     pub done : {l : ℕ} {out : List ℕ} {t : Slots} {on' : Bool} → Unsealing (k.sealing key (heading_in ticket)) (sealed_in ticket) (number_in ticket) room (Ok l) out → calls ≤ count - 1 - many →
         Puncturing k d s f front x back n (Ok tt) t on' → (joined : Bool) × Redeeming k d s on ticket room (length marks) (Ok (l, calls)) out t on' joined
-    done (no_plain none e) le p = absurd (err_ok _ _ (sym e))
-    done (no_record plain q t e) le p = absurd (err_ok _ _ (sym e))
+    done (no_plain none e) le p = absurd (clash _ _ (sym e))
+    done (no_record plain q t e) le p = absurd (clash _ _ (sym e))
     done {t = u} {on' = on'} (a_record plain q t e b) le p' =
         let p = subst (λ (j : ℕ). Puncturing k d s f front x back j (Ok tt) u on') en p' in
         elim p.ran [
           | through e' a o ↦
               (true, opened f front x back plain p.taken z.hit (seals plain q) (ready plain t le p) a o refl (record { calls = calls; counted = subst (λ (j : ℕ). Counted d x.node j calls) en counted; is = ap (λ (j : ℕ). Ok (j, calls)) (ok_same e) }) b)
-          | failed m h' e' c o ↦ absurd (err_ok _ _ (sym e'))
+          | failed m h' e' c o ↦ absurd (clash _ _ (sym e'))
         ]
 
 -- ---- before the chain is searched
@@ -148,13 +146,14 @@ entered_apt {d = d} {s = s} {room = room} {m = m} (enters n e l t c) =
     let q = and_parts (leb (slots_least d) (length s)) _ c in
     let i = ok_same e in
     record { size = i ∙ l; rooms = t; fits = c; large = leb-true _ _ p.0; wide = leb-true _ _ p.1; some = omega (arith, leb-true _ _ q.0) }
-entered_apt (short e t) = absurd (err_ok _ _ (sym e))
-entered_apt (unfit e t c) = absurd (err_ok _ _ (sym e))
+entered_apt (short e t) = absurd (clash _ _ (sym e))
+entered_apt (unfit e t c) = absurd (clash _ _ (sym e))
 
-pub surveyed : {k : Kit} {d : ℕ} {s : Slots} {on : Bool} {ticket : List ℕ} {m : ℕ} {v : Survey} {marks : List ℕ} → Surveying k d s on ticket m (Ok v) marks → (f : Sound) × Known k d s on ticket m v marks f
+pub surveyed : {k : Kit} {d : ℕ} {s : Slots} {on : Bool} {ticket of : List ℕ} {m : ℕ} {v : Survey} {marks : List ℕ} → Surveying k d s on ticket m (Ok (of, v)) marks → (of ≡ ticket) × (f : Sound) × Known k d s on ticket m v marks f
 surveyed {k = k} {d = d} {s = s} {on = on} {ticket = ticket} {m = m} {marks = marks} (tells v f e c) =
-    let i = ok_same e in (f, subst (λ (y : Survey). Known k d s on ticket m y marks f) (sym i) c)
-surveyed (halted h e q) = absurd (err_ok _ _ (sym e))
+    let i = ok_same e in
+    (ap (λ (z : List ℕ × Survey). z.0) i, f, subst (λ (y : Survey). Known k d s on ticket m y marks f) (sym (ap (λ (z : List ℕ × Survey). z.1) i)) c)
+surveyed (halted h e q) = absurd (clash _ _ (sym e))
 
 last_same : (i : ℕ) (xs : List Link) → last_of i xs ≡ last_slot i xs
 last_same i [] = refl
@@ -167,7 +166,7 @@ in_nodes x (y ∷ ys) (inr i) = inr (in_nodes x ys i)
 
 module _ (k : Kit) (d : ℕ) (s : Slots) (on : Bool) (ticket : List ℕ) (room m : ℕ) where
   pub not_entered : {h : Halt} {r : Outcome} → r ≡ Err h → Entering d s room m (Err h) → (joined : Bool) × Redeeming k d s on ticket room m r (zeros room) s on joined
-  not_entered {h = h} q (enters n e l t c) = absurd (err_ok _ _ e)
+  not_entered {h = h} q (enters n e l t c) = absurd (clash _ _ e)
   not_entered {h = h} q (short e t) =
       let i = err_same e in
       (false, declined h (rw (t, i)) q still refl)
@@ -181,17 +180,17 @@ module _ (k : Kit) (d : ℕ) (s : Slots) (on : Bool) (ticket : List ℕ) (room m
     verdict_is = let r = a.rooms in let f = a.fits in rw (r, f)
 
     pub not_surveyed : {h : Halt} {r : Outcome} {marks : List ℕ} → r ≡ Err h → Surveying k d s on ticket m (Err h) marks → (joined : Bool) × Redeeming k d s on ticket room m r (zeros room) s on joined
-    not_surveyed q (tells v f e c) = absurd (err_ok _ _ e)
+    not_surveyed q (tells v f e c) = absurd (clash _ _ e)
     not_surveyed {h = h} q (halted h' e v) = (false, declined h (verdict_is ∙ v ∙ ap Err (sym (err_same e))) q still refl)
 
-    module _ {v : Survey} {marks : List ℕ} (sv : Surveying k d s on ticket m (Ok v) marks) where
-      pub has_heading : heading_length ≤ length ticket
-      has_heading = (surveyed sv).1.heading
+    module _ {of : List ℕ} {v : Survey} {marks : List ℕ} (sv : Surveying k d s on ticket m (Ok (of, v)) marks) where
+      pub same_ticket : of ≡ ticket
+      same_ticket = (surveyed sv).0
 
       pub is_spent : {r : Outcome} → v.found ≡ None → r ≡ Err (placed Spent (number_in ticket)) → (joined : Bool) × Redeeming k d s on ticket room m r (zeros room) s on joined
       is_spent e q =
-          let f = (surveyed sv).0 in
-          let c = (surveyed sv).1 in (
+          let f = (surveyed sv).1 in
+          let c = (surveyed sv).2 in (
             false,
             spent f (verdict_is ∙ c.passed)
                 (λ x i o. none_at d (number_in ticket) 0 f.1 (sym c.finds ∙ e) (x.node, in_nodes x f.1 i, o)) q still refl,
@@ -200,8 +199,8 @@ module _ (k : Kit) (d : ℕ) (s : Slots) (on : Bool) (ticket : List ℕ) (room m
       pub spots : (found : Found) → v.found ≡ Some found → length marks ≡ m →
           (f : Sound) × (front : List Link) × (x : Link) × (back : List Link) × Spotted k d s on ticket room n v.length found marks f front x back
       spots found e l =
-          let f = (surveyed sv).0 in
-          let c = (surveyed sv).1 in
+          let f = (surveyed sv).1 in
+          let c = (surveyed sv).2 in
           let p = found_at d (number_in ticket) 0 f.1 found (sym c.finds ∙ e) in
           let w : room_of n ≤ length marks = subst (λ (j : ℕ). room_of j ≤ length marks) (sym a.size) (subst (λ (j : ℕ). room_of (length s) ≤ j) (sym l) a.wide) in (
             f,
@@ -221,8 +220,19 @@ module _ (k : Kit) (d : ℕ) (s : Slots) (on : Bool) (ticket : List ℕ) (room m
             },
           )
 
-pub underived : {e : Expansion} {d n : ℕ} {x : Link} {h : Halt} {key row : List ℕ} → Derived e d n x (Err h) key row → ⊥
-underived w = err_ok _ _ w.is
+pub underived : {e : Expansion} {d n : ℕ} {x : Link} {h : Halt} {key : List ℕ} {row : List (List ℕ)} → Derived e d n x (Err h) key row → ⊥
+underived w = clash _ _ w.is
+
+-- the same of a ticket under another name
+pub spotted_as : {k : Kit} {d : ℕ} {s : Slots} {on : Bool} {ticket of : List ℕ} {room count many : ℕ} {found : Found} {marks : List ℕ} {f : Sound} {front : List Link} {x : Link} {back : List Link} → of ≡ ticket →
+    Spotted k d s on ticket room count many found marks f front x back → Spotted k d s on of room count many found marks f front x back
+spotted_as {k = k} {d = d} {s = s} {on = on} {room = room} {count = count} {many = many} {found = found} {marks = marks} {f = f} {front = front} {x = x} {back = back} e z =
+    subst (λ (u : List ℕ). Spotted k d s on u room count many found marks f front x back) (sym e) z
+
+pub tickets_as : {k : Kit} {d : ℕ} {s : Slots} {on : Bool} {ticket of : List ℕ} {room m : ℕ} {r : Outcome} {state : List ℕ} {t : Slots} {on' : Bool} → of ≡ ticket →
+    (joined : Bool) × Redeeming k d s on of room m r state t on' joined → (joined : Bool) × Redeeming k d s on ticket room m r state t on' joined
+tickets_as {k = k} {d = d} {s = s} {on = on} {room = room} {m = m} {r = r} {state = state} {t = t} {on' = on'} e p =
+    subst (λ (u : List ℕ). (joined : Bool) × Redeeming k d s on u room m r state t on' joined) e p
 
 -- the same with as many bytes of marks under another name
 pub marks_as : {k : Kit} {d : ℕ} {s : Slots} {on : Bool} {ticket : List ℕ} {room m m' : ℕ} {r : Outcome} {state : List ℕ} {t : Slots} {on' : Bool} → m ≡ m' →
@@ -236,10 +246,10 @@ pub cleared : {k : Kit} {d : ℕ} {s : Slots} {on : Bool} {ticket : List ℕ} {r
 cleared {k = k} {d = d} {s = s} {on = on} {ticket = ticket} {room = room} {m = m} {r = r} {t = t} {on' = on'} out e p =
     subst (λ (b : List ℕ). (joined : Bool) × Redeeming k d s on ticket room m r b t on' joined) (sym e) p
 
-pub kept_err : (r : Outcome) (h : Halt) (room : ℕ) (out state : List ℕ) → r ≡ Err h → state ≡ zeros room → state ≡ kept r room out
-kept_err (Ok a) h room out state e q = absurd (err_ok _ _ (sym e))
-kept_err (Err g) h room out state e q = q
+pub kept_err : (r : Outcome) (room : ℕ) (out : List ℕ) → is_err r ≡ true → kept r room out ≡ zeros room
+kept_err (Err h) room out e = refl
+kept_err (Ok a) room out e = let z : ◌≡◌ {A = Bool} false true = e in cc
 
-pub kept_ok : (r : Outcome) (room : ℕ) (out state : List ℕ) → ((h : Halt) → r ≡ Err h → ⊥) → state ≡ out → state ≡ kept r room out
-kept_ok (Ok a) room out state f q = q
-kept_ok (Err h) room out state f q = absurd (f h refl)
+pub kept_ok : (r : Outcome) (room : ℕ) (out : List ℕ) → is_err r ≡ false → kept r room out ≡ out
+kept_ok (Ok a) room out e = refl
+kept_ok (Err h) room out e = let z : ◌≡◌ {A = Bool} true false = e in cc

@@ -1,5 +1,5 @@
 -- The steps of a redemption, each by what it answers.
-use Rattle.std.specs.Prelude.{◌≡◌, ℕ, ◌+◌, ◌*◌, ◌<◌, ◌≤◌, Bool, true, false, ◌&&◌, List, length, Ok, Err, Result, nat_le}
+use Rattle.std.specs.Prelude.{◌≡◌, ℕ, ◌+◌, ◌<◌, ◌≤◌, Bool, true, false, ◌&&◌, List, length, Option, Some, None, Ok, Err, Result, nat_le}
 use Rattle.octets.specs.Buffers.{zeros, filled}
 use Rattle.refusal.specs.declared.Refusal.TheVariants.{ShortBuffer, SlotCount, SealBroken, OpenedNotARecord}
 use Rattle.device.specs.Effects.{Slots}
@@ -8,14 +8,15 @@ use Rattle.fault.specs.Faults.{plainly, placed}
 use Rattle.session.specs.Limits.{least_length, most_length}
 use Rattle.session.specs.Records.{is_record}
 use Rattle.sealer.specs.Outcomes.{PlainOf, NoPlain}
-use Rattle.tree.specs.Nodes.{most_levels, Above}
+use Rattle.tree.specs.Nodes.{Above}
 use Rattle.tree.specs.Values.{Expansion, key_from, Counted, sibling_values}
+use Rattle.generator.specs.Descent.{row_of}
 use Rattle.marks.specs.Rows.{room_of}
 use Rattle.chain.specs.declared.Found.{Found}
 use Rattle.chain.specs.declared.Survey.{Survey}
 use Rattle.chain.specs.Reading.{Link, link_at, file_of, sound}
 use Rattle.chain.specs.Listing.{between, find_in, marked_all}
-use Rattle.rules.specs.Kits.{Kit, value_length, heading_length}
+use Rattle.rules.specs.Kits.{Kit, heading_length}
 use Rattle.rules.specs.Tickets.{number_in}
 use Rattle.rules.specs.Files.{last_slot}
 use Rattle.rules.specs.Calls.{Sound, count_fits, read_by, redeemable, Hit}
@@ -27,6 +28,11 @@ roomy s room m = nat_le most_length room && nat_le (room_of (length s)) m
 -- a ticket of so many bytes can be one of a sealer with this overhead
 abbrev pub ticket_fits : ℕ → ℕ → Bool
 ticket_fits overhead n = nat_le (heading_length + least_length + overhead) n && nat_le n (heading_length + most_length + overhead)
+
+-- the number that a ticket asks for, where there is a ticket
+abbrev pub asked_by : Option (List ℕ) → Option ℕ
+asked_by (Some ticket) = Some (number_in ticket)
+asked_by None = None
 
 -- the slot count, once buffers and count will do
 pub data Entering (d : ℕ) (s : Slots) (room m : ℕ) (r : Result ℕ Halt) : Type 0 where
@@ -49,8 +55,8 @@ pub record Known (k : Kit) (d : ℕ) (s : Slots) (on : Bool) (ticket : List ℕ)
   pub finds : v.found ≡ find_in d (number_in ticket) 0 f.1
   pub marked : marks ≡ marked_all (zeros m) f.1
 
-pub data Surveying (k : Kit) (d : ℕ) (s : Slots) (on : Bool) (ticket : List ℕ) (m : ℕ) (r : Result Survey Halt) (marks : List ℕ) : Type 0 where
-  tells : (v : Survey) (f : Sound) → r ≡ Ok v → Known k d s on ticket m v marks f → Surveying k d s on ticket m r marks
+pub data Surveying (k : Kit) (d : ℕ) (s : Slots) (on : Bool) (ticket : List ℕ) (m : ℕ) (r : Result (List ℕ × Survey) Halt) (marks : List ℕ) : Type 0 where
+  tells : (v : Survey) (f : Sound) → r ≡ Ok (ticket, v) → Known k d s on ticket m v marks f → Surveying k d s on ticket m r marks
   halted : (h : Halt) → r ≡ Err h → redeemable k ticket (read_by k d s on) ≡ Err h → Surveying k d s on ticket m r marks
 
 -- the record x, which stands over n, was found
@@ -62,14 +68,13 @@ pub record Met (d : ℕ) (s : Slots) (on : Bool) (found : Found) (n : ℕ) (x : 
   pub power : on ≡ true
   pub above : Above d x.node n
 
--- x's value has its length, n's key follows from it by the generator calls counted, and the siblings' values are kept in a row
-pub record Derived (e : Expansion) (d n : ℕ) (x : Link) (r : Result ℕ Halt) (key row : List ℕ) : Type 0 where
+-- n's key follows from it by the generator calls counted, and the siblings' values are kept in a row
+pub record Derived (e : Expansion) (d n : ℕ) (x : Link) (r : Result ℕ Halt) (key : List ℕ) (row : List (List ℕ)) : Type 0 where
   pub calls : ℕ
   pub counted : Counted d x.node n calls
   pub is : r ≡ Ok calls
-  pub valued : length x.value ≡ value_length
   pub keyed : key ≡ key_from e d x.node x.value n
-  pub beside : row ≡ filled (sibling_values e d x.node x.value n) (most_levels * value_length)
+  pub beside : row ≡ row_of (sibling_values e d x.node x.value n)
 
 -- opening sealed bytes for number n: no plain; a plain that is no record; or a record
 pub data Unsealing (sealing : List ℕ → List ℕ) (sealed : List ℕ) (n room : ℕ) (r : Result ℕ Halt) (out : List ℕ) : Type 0 where

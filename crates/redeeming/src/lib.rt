@@ -6,7 +6,7 @@
 //! A state is given only once its number is spent on the device: all refusals come before the first write, and the answer after the last.
 #![tactic(auto)]
 
-ghost use Rattle.std.specs.Prelude.{◌≡◌, ◌<◌, ◌≤◌, Bool, List, length, Ok};
+ghost use Rattle.std.specs.Prelude.{◌≡◌, ◌<◌, ◌≤◌, Bool, true, cond, List, length, Some, None, Ok};
 ghost use Rattle.octets.specs.Buffers.{zeros};
 ghost use Rattle.session.specs.Limits.{most_length};
 ghost use Rattle.layout.specs.Records.{value_of};
@@ -17,21 +17,22 @@ ghost use Rattle.scratch.specs.Clean.{Clean};
 ghost use Rattle.rules.specs.Kits.{Kit, kit_of, name_length, heading_length, overhead_most, value_length};
 ghost use Rattle.rules.specs.Tickets.{name_in, number_in, heading_in, sealed_in};
 ghost use Rattle.rules.specs.Calls.{Sound, same_bytes, redeemable, Redeeming, kept};
-ghost use Rattle.redeeming.specs.Steps.{roomy, ticket_fits, Entering, passing, Surveying, Met, Derived, Unsealing, Spotted};
+ghost use Rattle.redeeming.specs.Steps.{roomy, ticket_fits, asked_by, Entering, passing, Surveying, Met, Derived, Unsealing, Spotted};
 
 use chain::{Found, Survey, read_marking};
 use device::{ReadSlots, WriteSlots};
 use fault::Halt;
 use generator::{Generator, descend_keeping};
-use layout::Head;
+use layout::{Head, Numbers, copy_value};
 use marks::room;
-use octets::{clear, get_u32, same_bytes};
+use octets::{clear, get, same_bytes};
 use puncture::puncture;
 use refusal::Refusal;
 use rules::{HEADING, NAME, slot_count};
 use scratch::Scratch;
 use sealer::Sealer;
 use session::{RECORD_LEAST, RECORD_LIMIT, is_record};
+use std::marker::Model;
 use steps::read_at;
 use tree::LEVELS;
 
@@ -52,74 +53,108 @@ fn enter<D: ReadSlots>(d: &D, state: usize, marks: usize) -> Result<u16, Halt>
     slot_count(d)
 }
 
-// Whether a ticket of so many bytes can be one of a sealer with this overhead.
-fn ticket_fits(overhead: usize, length: usize) -> bool
-    requires { overhead ≤ overhead_most }
-    ensures { result ≡ ticket_fits overhead length }
-{
-    HEADING + RECORD_LEAST + overhead <= length && length <= HEADING + RECORD_LIMIT + overhead
+// A ticket that is long enough for its heading, seen as its bytes.
+#[derive(Drop)]
+struct Ticket<'a> {
+    bytes: &'a [u8],
 }
 
-// Whether a ticket bears a name.
-fn bears(ticket: &[u8], name: &[u8; 16]) -> bool
-    requires { name_length ≤ length ticket.now }
-    ensures { result ≡ same_bytes (name_in ticket.now) name.now }
-{
-    same_bytes(&ticket[0..NAME], name)
+impl<'a> Model for Ticket<'a> {
+    ghost use Rattle.std.specs.Prelude.{ℕ, ◌≤◌, List, length};
+    ghost use Rattle.rules.specs.Kits.{heading_length};
+
+    ghost Value = { List ℕ };
+
+    ghost view = { λ t. t.bytes.now };
+
+    ghost invariant = { λ t. heading_length ≤ length t.bytes.now };
 }
 
-// The number in a ticket's heading; 0 where the ticket is too short for one.
-fn number_in(ticket: &[u8]) -> u32
-    ensures { heading_length ≤ length ticket.now → result ≡ number_in ticket.now }
-{
-    if ticket.len() < HEADING {
-        return 0;
+impl<'a> Ticket<'a> {
+    // The ticket in some bytes, where it can be one of a sealer with this overhead.
+    fn of(bytes: &'a [u8], overhead: usize) -> Option<Ticket<'a>>
+        requires { overhead ≤ overhead_most }
+        ensures { result ≡ cond (ticket_fits overhead (length bytes.now)) (Some bytes.now) None }
+    {
+        let fitting = HEADING + RECORD_LEAST + overhead..=HEADING + RECORD_LIMIT + overhead;
+        if fitting.contains(&bytes.len()) {
+            Some(Ticket { bytes })
+        } else {
+            None
+        }
     }
-    get_u32(ticket, NAME)
+
+    // Whether it bears a name.
+    fn bears(&self, name: &[u8; 16]) -> bool
+        ensures { result ≡ same_bytes (name_in self.now) name.now }
+    {
+        same_bytes(&self.bytes[0..NAME], name)
+    }
+
+    // The number in its heading.
+    fn number(&self) -> u32
+        ensures { result ≡ number_in self.now }
+    {
+        get(self.bytes, NAME)
+    }
+
+    // Its heading.
+    fn heading(&self) -> [u8; HEADING]
+        ensures { result ≡ heading_in self.now }
+    {
+        let mut heading = [0; HEADING];
+        heading.copy_from_slice(&self.bytes[0..HEADING]);
+        heading
+    }
+
+    // Its sealed part.
+    fn sealed(&self) -> &[u8]
+        ensures { result.now ≡ sealed_in self.now }
+    {
+        &self.bytes[HEADING..]
+    }
+
+    // Checks its name and its number against the head.
+    fn check(&self, head: &Head) -> Result<(), Halt>
+        ensures { (k : Kit) (f : Sound) → ticket_fits k.overhead (length self.now) ≡ true → f.0 ≡ head.now → redeemable k self.now (Ok f) ≡ passing result f }
+    {
+        if !self.bears(&head.name) {
+            return Err(Halt::plain(Refusal::OtherName));
+        }
+        let number = self.number();
+        if number >= head.issued {
+            return Err(Halt::at(Refusal::NotIssued, number));
+        }
+        Ok(())
+    }
 }
 
-// Checks a ticket's length, name and number against the head.
-fn check_ticket(ticket: &[u8], head: &Head, overhead: usize) -> Result<(), Halt>
-    requires { overhead ≤ overhead_most }
-    ensures { (k : Kit) (f : Sound) → k.overhead ≡ overhead → f.0 ≡ head.now → redeemable k ticket.now (Ok f) ≡ passing result f }
+// The number that a ticket asks for, where there is a ticket.
+fn asked(ticket: &Option<Ticket>) -> Option<u32>
+    ensures { result ≡ asked_by ticket.now }
 {
-    if !ticket_fits(overhead, ticket.len()) {
-        return Err(Halt::plain(Refusal::TicketLength));
-    }
-    if !bears(ticket, &head.name) {
-        return Err(Halt::plain(Refusal::OtherName));
-    }
-    let number = get_u32(ticket, NAME);
-    if number >= head.issued {
-        return Err(Halt::at(Refusal::NotIssued, number));
-    }
-    Ok(())
+    ticket.as_ref().map(|ticket| ticket.number())
 }
 
 // Reads the file for a ticket, marks the chain's slots, and checks the ticket against the head.
-fn admit<D: ReadSlots>(
+fn admit<'a, D: ReadSlots>(
     d: &D,
-    generator: u8,
-    sealer: u8,
+    numbers: Numbers,
     overhead: usize,
-    ticket: &[u8],
+    bytes: &'a [u8],
     marks: &mut [u8],
     slot: &mut [u8; 64],
-) -> Result<Survey, Halt>
+) -> Result<(Ticket<'a>, Survey), Halt>
     requires { overhead ≤ overhead_most }
-    ensures { (k : Kit) → k.generator ≡ generator → k.sealer ≡ sealer → k.overhead ≡ overhead → 0 < length (D.ReadSlots.slots d.now) → room_of (length (D.ReadSlots.slots d.now)) ≤ length marks.old → Surveying k tree_levels (D.ReadSlots.slots d.now) (D.ReadSlots.powered d.now) ticket.now (length marks.old) result marks.new }
+    ensures { (k : Kit) → k.generator ≡ numbers.generator → k.sealer ≡ numbers.sealer → k.overhead ≡ overhead → 0 < length (D.ReadSlots.slots d.now) → room_of (length (D.ReadSlots.slots d.now)) ≤ length marks.old → Surveying k tree_levels (D.ReadSlots.slots d.now) (D.ReadSlots.powered d.now) bytes.now (length marks.old) result marks.new }
 {
-    let survey = read_marking(d, generator, sealer, Some(number_in(ticket)), marks, slot)?;
-    check_ticket(ticket, &survey.head, overhead)?;
-    Ok(survey)
-}
-
-// The value in a record.
-fn copy_value(slot: &[u8; 64], value: &mut [u8; 32])
-    ensures is { value.new ≡ value_of slot.now }
-    ensures long { length (value_of slot.now) ≡ value_length }
-{
-    value.copy_from_slice(&slot[32..64]);
+    let ticket = Ticket::of(bytes, overhead);
+    let survey = read_marking(d, numbers, asked(&ticket), marks, slot)?;
+    let Some(ticket) = ticket else {
+        return Err(Halt::plain(Refusal::TicketLength));
+    };
+    ticket.check(&survey.head)?;
+    Ok((ticket, survey))
 }
 
 // Goes down to n's key from the value of the record found, keeps the siblings' values, and answers the generator calls made.
@@ -130,50 +165,39 @@ fn derive_key<D: ReadSlots, G: Generator>(
     n: u32,
     scratch: &mut Scratch,
 ) -> Result<u32, Halt>
-    ensures { (x : Link) → Met tree_levels (D.ReadSlots.slots d.now) (D.ReadSlots.powered d.now) found.now n x → Derived (G.Generator.expansion g.now) tree_levels n x result scratch.new.key scratch.new.row }
+    ensures { (x : Link) → Met tree_levels (D.ReadSlots.slots d.now) (D.ReadSlots.powered d.now) found.now n x → Derived (G.Generator.expansion g.now) tree_levels n x result scratch.new.values.value scratch.new.row }
 {
     let Scratch {
         slot,
-        pad: _,
-        key,
-        left,
-        right,
+        values,
         row,
+        ..
     } = scratch;
     read_at(d, found.slot, slot)?;
-    copy_value(slot, key);
-    match descend_keeping(g, LEVELS, &found.node, n, key, left, right, row) {
-        Some(calls) => Ok(calls),
-        None => Err(Halt::at(Refusal::Spent, n)),
-    }
+    copy_value(slot, &mut values.value);
+    descend_keeping(g, LEVELS, &found.node, n, values, row).ok_or(Halt::at(Refusal::Spent, n))
 }
 
 // Opens the sealed part of a ticket into the state's buffer, and answers the record's length.
 fn open_ticket<S: Sealer>(
     s: &S,
-    ticket: &[u8],
+    ticket: &Ticket,
     key: &[u8; 32],
     state: &mut [u8],
     pad: &mut [u8; 64],
 ) -> Result<usize, Halt>
-    requires { heading_length ≤ length ticket.now }
     ensures { most_length ≤ length state.old → Unsealing (S.Sealer.sealing s.now key.now (heading_in ticket.now)) (sealed_in ticket.now) (number_in ticket.now) (length state.old) result state.new }
 {
-    let number = get_u32(ticket, NAME);
-    let mut heading = [0; HEADING];
-    heading.copy_from_slice(&ticket[0..HEADING]);
-    match s.open(key, &heading, &ticket[HEADING..], state, pad) {
-        Ok(opened) => match opened {
-            Some(length) => {
-                if !is_record(&state[0..length]) {
-                    return Err(Halt::at(Refusal::OpenedNotARecord, number));
-                }
-                Ok(length)
-            }
-            None => Err(Halt::at(Refusal::SealBroken, number)),
-        },
-        Err(refusal) => Err(Halt::plain(refusal)),
+    let opened = s
+        .open(key, &ticket.heading(), ticket.sealed(), state, pad)
+        .map_err(Halt::plain)?;
+    let Some(length) = opened else {
+        return Err(Halt::at(Refusal::SealBroken, ticket.number()));
+    };
+    if !is_record(&state[..length]) {
+        return Err(Halt::at(Refusal::OpenedNotARecord, ticket.number()));
     }
+    Ok(length)
 }
 
 // Opens the ticket under the record found, and punctures the tree at its number. `records` is the chain's length.
@@ -184,17 +208,16 @@ fn spend<D: WriteSlots, G: Generator, S: Sealer>(
     count: u16,
     records: u32,
     found: &Found,
-    ticket: &[u8],
+    ticket: &Ticket,
     state: &mut [u8],
     marks: &[u8],
     scratch: &mut Scratch,
 ) -> Result<(usize, u32), Halt>
-    requires { heading_length ≤ length ticket.now }
     ensures { (f : Sound) (front : List Link) (x : Link) (back : List Link) → Spotted (kit_of (G.Generator.expansion g.now) (G.Generator.code g.now) (S.Sealer.sealing s.now) (S.Sealer.overhead s.now) (S.Sealer.number s.now)) tree_levels (D.ReadSlots.slots d.old) (D.ReadSlots.powered d.old) ticket.now (length state.old) count records found.now marks.now f front x back → (joined : Bool) × Redeeming (kit_of (G.Generator.expansion g.now) (G.Generator.code g.now) (S.Sealer.sealing s.now) (S.Sealer.overhead s.now) (S.Sealer.number s.now)) tree_levels (D.ReadSlots.slots d.old) (D.ReadSlots.powered d.old) ticket.now (length state.old) (length marks.now) result (kept result (length state.old) state.new) (D.ReadSlots.slots d.new) (D.ReadSlots.powered d.new) joined }
 {
-    let number = get_u32(ticket, NAME);
+    let number = ticket.number();
     let calls = derive_key(d, g, found, number, scratch)?;
-    let length = open_ticket(s, ticket, &scratch.key, state, &mut scratch.pad)?;
+    let length = open_ticket(s, ticket, &scratch.values.value, state, &mut scratch.pad)?;
     if u32::from(count).saturating_sub(1).saturating_sub(records) < calls {
         return Err(Halt::at(Refusal::NoFreeSlot, number));
     }
@@ -223,17 +246,13 @@ fn redeem_in<D: WriteSlots, G: Generator, S: Sealer>(
     ensures { (joined : Bool) × Redeeming (kit_of (G.Generator.expansion g.now) (G.Generator.code g.now) (S.Sealer.sealing s.now) (S.Sealer.overhead s.now) (S.Sealer.number s.now)) tree_levels (D.ReadSlots.slots d.old) (D.ReadSlots.powered d.old) ticket.now (length state.old) (length marks.old) result (kept result (length state.old) state.new) (D.ReadSlots.slots d.new) (D.ReadSlots.powered d.new) joined }
 {
     let count = enter(d, state.len(), marks.len())?;
-    let survey = admit(
-        d,
-        g.number(),
-        s.number(),
-        s.overhead(),
-        ticket,
-        marks,
-        &mut scratch.slot,
-    )?;
+    let numbers = Numbers {
+        generator: g.number(),
+        sealer: s.number(),
+    };
+    let (ticket, survey) = admit(d, numbers, s.overhead(), ticket, marks, &mut scratch.slot)?;
     let Some(found) = survey.found else {
-        return Err(Halt::at(Refusal::Spent, number_in(ticket)));
+        return Err(Halt::at(Refusal::Spent, ticket.number()));
     };
     spend(
         d,
@@ -242,7 +261,7 @@ fn redeem_in<D: WriteSlots, G: Generator, S: Sealer>(
         count,
         survey.length,
         &found,
-        ticket,
+        &ticket,
         state,
         marks,
         scratch,
@@ -266,7 +285,7 @@ pub fn redeem_on<D: WriteSlots, G: Generator, S: Sealer>(
     ensures clean { Clean scratch.new }
 {
     let answer = redeem_in(d, g, s, ticket, state, marks, scratch);
-    if let Err(_) = answer {
+    if answer.is_err() {
         clear(state);
     }
     clear(marks);

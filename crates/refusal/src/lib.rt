@@ -11,37 +11,37 @@ use std::fmt;
 #[derive(Clone, Copy, PartialEq, Eq, Debug)]
 pub enum Refusal {
     /// a lent buffer is shorter than what goes into it may be, or a plain is too long to be sealed
-    ShortBuffer,
+    ShortBuffer = 1,
     /// the device has too few or too many slots
-    SlotCount,
+    SlotCount = 2,
     /// the bytes, or the fields, are no state record
-    NotARecord,
+    NotARecord = 3,
     /// slot 0 holds no head, or one of a tree with another generator or sealer
-    BadHead,
+    BadHead = 4,
     /// a record of the chain is not laid out as it should be, or does not belong where it stands
-    BadLink,
+    BadLink = 5,
     /// a number that is not issued yet lies under no record
-    Uncovered,
+    Uncovered = 6,
     /// every number is issued
-    Exhausted,
+    Exhausted = 7,
     /// the ticket is too short or too long
-    TicketLength,
+    TicketLength = 8,
     /// the ticket bears another key name
-    OtherName,
+    OtherName = 9,
     /// the ticket's number is not issued
-    NotIssued,
+    NotIssued = 10,
     /// no record covers the ticket's number
-    Spent,
+    Spent = 11,
     /// the seal does not open
-    SealBroken,
+    SealBroken = 12,
     /// what the seal held is no state record
-    OpenedNotARecord,
+    OpenedNotARecord = 13,
     /// too few slots are free
-    NoFreeSlot,
+    NoFreeSlot = 14,
     /// there is no power, or it fails during the call
-    NoPower,
+    NoPower = 15,
     /// the device has no such slot
-    NoSuchSlot,
+    NoSuchSlot = 16,
 }
 
 impl Refusal {
@@ -49,24 +49,7 @@ impl Refusal {
     pub fn number(self) -> u8
         ensures { result ≡ number_of self }
     {
-        match self {
-            Refusal::ShortBuffer => 1,
-            Refusal::SlotCount => 2,
-            Refusal::NotARecord => 3,
-            Refusal::BadHead => 4,
-            Refusal::BadLink => 5,
-            Refusal::Uncovered => 6,
-            Refusal::Exhausted => 7,
-            Refusal::TicketLength => 8,
-            Refusal::OtherName => 9,
-            Refusal::NotIssued => 10,
-            Refusal::Spent => 11,
-            Refusal::SealBroken => 12,
-            Refusal::OpenedNotARecord => 13,
-            Refusal::NoFreeSlot => 14,
-            Refusal::NoPower => 15,
-            Refusal::NoSuchSlot => 16,
-        }
+        self as u8
     }
 }
 

@@ -1,23 +1,15 @@
--- What the calls write: bytes of the head and of records, and which writes a call makes.
-use Rattle.std.specs.Prelude.{ℕ, zero, suc, ◌+◌, ◌-◌, ◌<◌, Bool, true, false, cond, ◌&&◌, ◌||◌, List, [], ◌∷◌, ◌++◌, length, take, drop, ◌==◌, slice_index_or}
-use Rattle.octets.specs.Fields.{bytes_of}
+-- Which writes a call makes.
+use Rattle.std.specs.Prelude.{ℕ, zero, suc, ◌+◌, ◌-◌, ◌<◌, Bool, false, cond, ◌||◌, List, [], ◌∷◌, ◌++◌, length, drop, ◌==◌, slice_index_or}
+use Rattle.octets.specs.Buffers.{is_blank}
 use Rattle.device.specs.Effects.{Slot, Slots, blank}
 use Rattle.fault.specs.declared.Step.TheVariants.{Make, Head as HeadStep, NewRecord, Join, Erasure, Sweep}
 use Rattle.layout.specs.declared.Head.{Head}
-use Rattle.layout.specs.Records.{encode_head, encode_node}
+use Rattle.layout.specs.Records.{encode_head, encode_node, relinked, recounted}
 use Rattle.tree.specs.Values.{Valued}
 use Rattle.tree.specs.Cover.{In, Distinct}
 use Rattle.chain.specs.Reading.{Link, slots_of}
 use Rattle.rules.specs.Kits.{Kit}
 use Rattle.steps.specs.OneStep.{Write}
-
--- the same slot leading on to the index i: the head's first index and a record's next index are its bytes 4 and 5
-abbrev pub relinked : ℕ → Slot → Slot
-relinked i b = take 4 b ++ (bytes_of 2 i ++ drop 6 b)
-
--- the same head with n numbers issued, in its bytes 6 to 9
-abbrev pub recounted : ℕ → Slot → Slot
-recounted n b = take 6 b ++ (bytes_of 4 n ++ drop 10 b)
 
 -- ---- issuing: one write, of the head
 abbrev pub issue_write : Slots → Head → Write
@@ -94,10 +86,6 @@ make_writes k d s root name = tree_writes d s root (first_head k name)
 abbrev pub holds : List ℕ → ℕ → Bool
 holds [] i = false
 holds (p ∷ ps) i = p == i || holds ps i
-
-abbrev pub is_blank : Slot → Bool
-is_blank [] = true
-is_blank (b ∷ bs) = b == 0 && is_blank bs
 
 -- zeros to every slot from i on that is not one of ps and not zero, in increasing order
 abbrev pub sweep_from : ℕ → Slots → List ℕ → List Write

@@ -1,6 +1,7 @@
 -- What a server is put together from, beside its device: a generator and a sealer, by their meanings.
 use Rattle.std.specs.Prelude.{◌≡◌, ℕ, ◌+◌, ◌≤◌, List, length}
 use Rattle.session.specs.Limits.{most_length}
+use Rattle.layout.specs.declared.Numbers.{Numbers}
 use Rattle.tree.specs.Values.{Expansion}
 
 pub record Kit : Type 0 where
@@ -14,6 +15,10 @@ pub record Kit : Type 0 where
 abbrev pub kit_of : Expansion → ℕ → (List ℕ → List ℕ → List ℕ → List ℕ) → ℕ → ℕ → Kit
 kit_of expansion generator sealing overhead sealer =
     record { expansion = expansion; generator = generator; sealing = sealing; overhead = overhead; sealer = sealer }
+
+-- the numbers by which a key file names a kit's parts
+abbrev pub numbers_in : Kit → Numbers
+numbers_in k = record { generator = k.generator; sealer = k.sealer }
 
 -- the bytes of a node's value, and the most that a sealer adds to a plain
 abbrev pub value_length : ℕ

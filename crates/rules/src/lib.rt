@@ -24,21 +24,19 @@ pub const SLOTS_LEAST: usize = LEVELS as usize + 2;
 pub const SLOTS_MOST: usize = 1024;
 
 /// The lengths of a ticket's parts, and the slots that a device may have.
-pub fn limits_stand() -> u8
+pub fn limits_stand()
     ensures name { NAME ≡ name_length }
     ensures heading { HEADING ≡ heading_length }
     ensures least { SLOTS_LEAST ≡ slots_least tree_levels }
     ensures most { SLOTS_MOST ≡ slots_most }
-{
-    0
-}
+{}
 
 /// The number of slots, where a tree fits a device of so many.
 pub fn slot_count<D: ReadSlots>(d: &D) -> Result<u16, Halt>
-    ensures { Fitting tree_levels (D.ReadSlots.slots d.now) result }
+    ensures { Fitting tree_levels (D.slots d.now) result }
 {
     let count = d.count();
-    if count < SLOTS_LEAST || count > SLOTS_MOST {
+    if !(SLOTS_LEAST..=SLOTS_MOST).contains(&count) {
         return Err(Halt::plain(Refusal::SlotCount));
     }
     Ok(count as u16)

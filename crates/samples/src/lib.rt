@@ -1,7 +1,7 @@
 //! What the programs show alike: where they print, sample sessions with a root and a key name, and rows of bytes.
 #![tactic(auto)]
 
-ghost use Rattle.std.specs.Prelude.{◌≡◌, ◌↔◌, ◌≤◌, length, take, All, IsTrue, IsOk, Ok, ◌⊎◌};
+ghost use Rattle.std.specs.Prelude.{◌≡◌, ◌↔◌, ◌≤◌, ◌+◌, min, length, take, All, IsTrue, IsOk, Ok, ◌⊎◌};
 ghost use Rattle.session.specs.Records.{Fits, decode_of};
 
 use anyhow::anyhow;
@@ -74,7 +74,8 @@ impl<'a> Show<'a> {
 }
 
 /// Bytes from the start of a row: a record, or a ticket.
-#[derive(Clone, Copy)]
+// A row with its length, and no Vec: issue and redeem write into a lent row, and answer the length.
+#[derive(Clone, Copy, PartialEq, Eq)]
 pub struct Bytes {
     pub row: [u8; ROOM],
     pub length: usize,
@@ -97,6 +98,13 @@ impl Bytes {
     {
         &self.row[0..self.length.min(ROOM)]
     }
+}
+
+/// Counts so many more; a count stays at its greatest.
+pub fn add(count: &mut u32, more: u32)
+    ensures { count.new ≡ min (count.old + more) 4294967295 }
+{
+    *count = count.saturating_add(more);
 }
 
 /// Whether every byte has a value.

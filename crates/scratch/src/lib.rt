@@ -6,14 +6,11 @@
 ghost use Rattle.std.specs.Prelude.{◌≡◌};
 ghost use Rattle.scratch.specs.Clean.{Clean};
 
+use generator::{VALUE_SIZE, Value, Values};
+use tree::ROW;
+
 /// The bytes of a slot; a pad has as many.
 const SLOT: usize = 64;
-
-/// The bytes of a node's value, and of a key.
-const VALUE: usize = 32;
-
-/// The bytes of a row with a value for each level of any tree.
-const ROW: usize = tree::ROW * VALUE;
 
 #[derive(Drop)]
 pub struct Scratch {
@@ -21,13 +18,10 @@ pub struct Scratch {
     pub slot: [u8; SLOT],
     /// the sealer's pad
     pub pad: [u8; SLOT],
-    /// a node's value, and then a number's key
-    pub key: [u8; VALUE],
-    /// the two children's values on the way down
-    pub left: [u8; VALUE],
-    pub right: [u8; VALUE],
+    /// a node's value, and then a number's key, with the two children's values on the way down
+    pub values: Values,
     /// the values of the siblings on the way down
-    pub row: [u8; ROW],
+    pub row: [Value; ROW],
 }
 
 impl Scratch {
@@ -38,10 +32,8 @@ impl Scratch {
         Scratch {
             slot: [0; SLOT],
             pad: [0; SLOT],
-            key: [0; VALUE],
-            left: [0; VALUE],
-            right: [0; VALUE],
-            row: [0; ROW],
+            values: Values::new(),
+            row: [[0; VALUE_SIZE]; ROW],
         }
     }
 
@@ -49,11 +41,6 @@ impl Scratch {
     pub fn wipe(&mut self)
         ensures { Clean self.new }
     {
-        self.slot = [0; SLOT];
-        self.pad = [0; SLOT];
-        self.key = [0; VALUE];
-        self.left = [0; VALUE];
-        self.right = [0; VALUE];
-        self.row = [0; ROW];
+        *self = Scratch::new();
     }
 }

@@ -10,7 +10,7 @@ ghost use Rattle.sealer.specs.Limits.{plain_limit, overhead_limit};
 ghost use Rattle.sealer.specs.Headings.{heading_of};
 ghost use Rattle.sealer.specs.Outcomes.{Sealed, Opened};
 
-use octets::put_u32;
+use octets::put;
 use refusal::Refusal;
 use session::RECORD_LIMIT;
 
@@ -21,6 +21,7 @@ pub const PLAIN_LIMIT: usize = RECORD_LIMIT;
 pub const OVERHEAD_LIMIT: usize = 32;
 
 /// A way to seal plains.
+// key and heading stay two parameters: each lies in a buffer of its own, and a struct of both would be made anew for each call
 pub trait Sealer {
     /// the sealed bytes, by key, heading and plain
     ghost sealing: { Self → List ℕ → List ℕ → List ℕ → List ℕ };
@@ -84,5 +85,5 @@ pub fn heading(name: &[u8; 16], number: u32, out: &mut [u8; 20])
     ensures { out.new ≡ heading_of name.now number }
 {
     out[0..16].copy_from_slice(name);
-    put_u32(out, 16, number);
+    put(out, 16, number);
 }

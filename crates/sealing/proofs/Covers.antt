@@ -1,10 +1,12 @@
 -- Covering by places, and the laws of sealings.
-use Rattle.std.proofs.Common.{◌≡◌, ℕ, ◌+◌, ◌-◌, ◌*◌, ◌/◌, ◌%◌, ◌<◌, ◌≤◌, List, ◌++◌, length, get_or, take, drop, sym, refl, ap, ◌∙◌, ⊎_elim, arith}
+use Rattle.std.proofs.Common.{◌≡◌, ℕ, ◌+◌, ◌-◌, ◌*◌, ◌/◌, ◌%◌, ◌<◌, ◌≤◌, List, ◌++◌, length, get_or, take, drop, sym, refl, ap, ◌∙◌, arith}
 use lib.Bits.{bit_xor, xor_assoc, xor_self, xor_zero_r}
 use Rattle.std.proofs.lemmas.Nat.{div-mul-add, mod-mul-add}
 use Rattle.std.proofs.lemmas.List.FromFn.{length-map-range_with_len, get_or-map-range_with_len}
-use Rattle.std.proofs.lemmas.List.{ext_get_or, length-append, length-drop, get_or_append_left, get_or-append_right, get_or-drop, take_at, drop_at}
-use Rattle.std.proofs.lemmas.Bool.{cases_lt}
+use Rattle.std.proofs.lemmas.List.{ext_get_or, length-append, length-drop, length-take-le, get_or_append_left, get_or-take, get_or-drop, take_at, drop_at}
+use Rattle.std.proofs.lemmas.Slice.{take-put_mid}
+use borrow.Rule.Slice.PartMut.{put_mid}
+use lib.Seq.{take-add}
 use Rattle.sealing.specs.Covering.{covered_at, covered, sealing_of}
 use Rattle.sealing.specs.Laws.{SealingLaws}
 
@@ -30,30 +32,26 @@ module _ (block : ℕ → List ℕ) (size : ℕ) where
       let l : k < length plain = omega (arith, covered_long c) in
       covered_at_is c k (omega arith) ∙ rw (covered_at_is plain k l) (xor_twice (get_or plain k 0) (get_or (block (k / size)) (k % size) 0)))
 
-  -- a list that is covered at each place of the plain, and as it was after
-  pub covered_filled : (plain was out : List ℕ) → length out ≡ length was → length plain ≤ length was → ((k : ℕ) → k < length plain → get_or out k 0 ≡ covered_at block size plain k) → ((k : ℕ) → length plain ≤ k → get_or out k 0 ≡ get_or was k 0) → out ≡ covered block size plain ++ drop (length plain) was
-  covered_filled plain was out e f low high =
-      let n : ℕ = length plain in
-      let c : List ℕ = covered block size plain in
-      let lc : length c ≡ n = covered_long plain in
-      ext_get_or 0 out (c ++ drop n was) (omega (arith, length-append c (drop n was), length-drop n was))
-      (λ k h. ⊎_elim
-      (λ (lt : k < n). low k lt ∙ sym (get_or_append_left c (drop n was) 0 k (omega arith) ∙ covered_at_is plain k lt))
-      (λ (ge : n ≤ k).
-      let back : n + (k - n) ≡ k = omega arith in
-      high k ge ∙ sym (get_or-append_right c (drop n was) n k 0 lc ge ∙ get_or-drop n was (k - n) 0 ∙ rw back))
-      (cases_lt k n))
-
-  -- a place of block i
-  pub covered_here : (plain pad : List ℕ) (i at k : ℕ) → at ≡ i * size → at ≤ k → k < at + size → take size pad ≡ block i → bit_xor (get_or plain k 0) (get_or (take size pad) (k - at) 0) ≡ covered_at block size plain k
+  -- a part of the plain with its block laid over it is that part of the covered plain
+  pub laid : (plain part rest pad row : List ℕ) (i : ℕ) → drop (i * size) plain ≡ part ++ rest → length part ≤ size → length row ≡ length part → ((k : ℕ) → k < length row → get_or row k 0 ≡ bit_xor (get_or part k 0) (get_or pad k 0)) → take size pad ≡ block i → row ≡ take (length part) (drop (i * size) (covered block size plain))
   unfolding covered_at
-  covered_here plain pad i at k e low high is =
-      let j : ℕ = k - at in
-      let small : j < size = omega arith in
-      let split : i * size + j ≡ k = omega arith in
-      let q : k / size ≡ i = ap (λ (x : ℕ). x / size) (sym split) ∙ div-mul-add i size j small in
-      let r : k % size ≡ j = ap (λ (x : ℕ). x % size) (sym split) ∙ mod-mul-add i size j small in
-      rw (q, r, is)
+  laid plain part rest pad row i e fits long each is =
+      let at : ℕ = i * size in
+      let c : List ℕ = covered block size plain in
+      let lengths : length plain - at ≡ length part + length rest = sym (length-drop at plain) ∙ ap length e ∙ length-append part rest in
+      ext_get_or 0 row (take (length part) (drop at c)) (omega (arith, length-take-le (length part) (drop at c), length-drop at c, covered_long plain))
+      (λ k h.
+      let small : k < size = omega arith in
+      let whole : get_or plain (at + k) 0 ≡ get_or part k 0 = sym (get_or-drop at plain k 0) ∙ ap (λ l. get_or l k 0) e ∙ get_or_append_left part rest 0 k (omega arith) in
+      let streamed : get_or pad k 0 ≡ get_or (block i) k 0 = sym (get_or-take size pad k 0 small) ∙ ap (λ l. get_or l k 0) is in
+      each k h ∙ sym (get_or-take (length part) (drop at c) k 0 (omega arith) ∙ get_or-drop at c k 0 ∙ covered_at_is plain (at + k) (omega arith)
+      ∙ rw (div-mul-add i size k small, mod-mul-add i size k small, whole, streamed)))
+
+  -- a buffer whose front is covered, when the next part is laid into it
+  pub further : (plain out row : List ℕ) (at k m n : ℕ) → at ≤ length out → length row ≡ m → n ≡ at + m → take at out ≡ take at (covered block size plain) → row ≡ take m (drop at (covered block size plain)) → take n (put_mid at k out row) ≡ take n (covered block size plain)
+  further plain out row at k m n fits long end front is =
+      let c : List ℕ = covered block size plain in
+      take-put_mid at k out row n (omega arith) fits ∙ rw front (ap (λ l. take at c ++ l) is) ∙ sym (take-add at m c) ∙ ap (λ j. take j c) (sym end)
 
 module _ (block : ℕ → List ℕ) (size : ℕ) (tag : List ℕ → List ℕ) (extra : ℕ) (tagged : (c : List ℕ) → length (tag c) ≡ extra) where
   pub sealing_long : (plain : List ℕ) → length (sealing_of block size tag plain) ≡ length plain + extra
@@ -63,20 +61,19 @@ module _ (block : ℕ → List ℕ) (size : ℕ) (tag : List ℕ → List ℕ) (
       length-append c (tag c) ∙ omega (arith, covered_long block size plain, tagged c)
 
   -- the two parts of a sealing
-  pub sealing_parts : (plain sealed : List ℕ) → sealing_of block size tag plain ≡ sealed → (take (length sealed - extra) sealed ≡ covered block size plain) × (drop (length sealed - extra) sealed ≡ tag (covered block size plain))
+  pub sealing_parts : (plain bytes end : List ℕ) → length end ≡ extra → sealing_of block size tag plain ≡ bytes ++ end → (bytes ≡ covered block size plain) × (end ≡ tag (covered block size plain))
   unfolding sealing_of
-  sealing_parts plain sealed e =
+  sealing_parts plain bytes end long e =
       let c : List ℕ = covered block size plain in
-      let n : ℕ = length sealed - extra in
-      let long : length c ≡ n = omega (arith, ap length e, length-append c (tag c), tagged c) in
-      (ap (take n) (sym e) ∙ take_at c (tag c) n long, ap (drop n) (sym e) ∙ drop_at c (tag c) n long)
+      let n : ℕ = length bytes in
+      let same : length c ≡ n = omega (arith, ap length e, length-append c (tag c), length-append bytes end, tagged c) in
+      (sym (take_at bytes end n refl) ∙ ap (take n) (sym e) ∙ take_at c (tag c) n same, sym (drop_at bytes end n refl) ∙ ap (drop n) (sym e) ∙ drop_at c (tag c) n same)
 
   pub apart : (plain other : List ℕ) → sealing_of block size tag plain ≡ sealing_of block size tag other → plain ≡ other
+  unfolding sealing_of
   apart plain other e =
-      let s : List ℕ = sealing_of block size tag other in
-      let one = (sealing_parts plain s e).0 in
-      let two = (sealing_parts other s refl).0 in
-      sym (twice block size plain) ∙ ap (covered block size) (sym one ∙ two) ∙ twice block size other
+      let c : List ℕ = covered block size other in
+      sym (twice block size plain) ∙ ap (covered block size) (sym (sealing_parts plain c (tag c) (tagged c) e).0) ∙ twice block size other
 
 pub laws : SealingLaws
 laws = record { even = covered_long; twice = twice; long = sealing_long; apart = apart }

@@ -1,7 +1,7 @@
 -- Which sealed bytes have a plain, and what the buffers hold.
-use Rattle.std.proofs.Common.{◌≡◌, ℕ, ◌+◌, ◌-◌, ◌<◌, ◌≤◌, List, ◌++◌, length, take, drop, sym, ap, ◌∙◌, arith}
+use Rattle.std.proofs.Common.{◌≡◌, ℕ, ◌+◌, ◌-◌, ◌<◌, ◌≤◌, List, ◌++◌, length, take, drop, sym, ap, ◌∙◌, ◌⊎◌, arith}
 use lib.Seq.{paste}
-use Rattle.std.proofs.lemmas.List.{length-take-le, take_at, take-append-drop, drop-replicate}
+use Rattle.std.proofs.lemmas.List.{take_at, drop-replicate}
 use Rattle.octets.specs.Buffers.{zeros, filled}
 use Rattle.session.proofs.Rows.{filled_next}
 use Rattle.sealer.specs.Limits.{plain_limit}
@@ -20,29 +20,21 @@ covered_zeros block size plain was room e =
     rw (e, long, drop-replicate {X = ℕ} (length plain) room 0)
 
 module _ (block : ℕ → List ℕ) (size : ℕ) (tag : List ℕ → List ℕ) (extra : ℕ) (tagged : (c : List ℕ) → length (tag c) ≡ extra) (sealed : List ℕ) where
-  plain_long : (plain : List ℕ) → PlainOf (sealing_of block size tag) sealed plain → length sealed ≡ length plain + extra
-  plain_long plain p = ap length (sym p.seals) ∙ sealing_long block size tag extra tagged plain
-
-  pub too_short : length sealed < extra → NoPlain (sealing_of block size tag) sealed
-  too_short h plain p = omega (arith, plain_long plain p)
-
-  pub too_long : plain_limit < length sealed - extra → NoPlain (sealing_of block size tag) sealed
-  too_long h plain p = omega (arith, plain_long plain p, p.short)
+  -- bytes of a length that no sealing has
+  pub no_length : (length sealed < extra) ⊎ (plain_limit < length sealed - extra) → NoPlain (sealing_of block size tag) sealed
+  no_length h plain p = omega (arith, h, ap length p.seals, sealing_long block size tag extra tagged plain, p.short)
 
   -- bytes whose tag is another are no sealing
-  pub other_tag : (tag (take (length sealed - extra) sealed) ≡ drop (length sealed - extra) sealed → ⊥) → NoPlain (sealing_of block size tag) sealed
-  other_tag differ plain p =
-      let q = sealing_parts block size tag extra tagged plain sealed p.seals in
+  pub other_tag : (bytes end : List ℕ) → sealed ≡ bytes ++ end → length end ≡ extra → (tag bytes ≡ end → ⊥) → NoPlain (sealing_of block size tag) sealed
+  other_tag bytes end parts long differ plain p =
+      let q = sealing_parts block size tag extra tagged plain bytes end long (p.seals ∙ parts) in
       differ (ap tag q.0 ∙ sym q.1)
 
   -- bytes whose tag is right are the sealing of what they cover
-  pub same_tag : extra ≤ length sealed → length sealed - extra ≤ plain_limit → tag (take (length sealed - extra) sealed) ≡ drop (length sealed - extra) sealed → PlainOf (sealing_of block size tag) sealed (covered block size (take (length sealed - extra) sealed))
+  pub same_tag : (bytes end : List ℕ) → sealed ≡ bytes ++ end → length bytes ≤ plain_limit → tag bytes ≡ end → PlainOf (sealing_of block size tag) sealed (covered block size bytes)
   unfolding sealing_of
-  same_tag low high same =
-      let n : ℕ = length sealed - extra in
-      let c : List ℕ = take n sealed in
-      let long : length c ≡ n = length-take-le n sealed (omega arith) in
-      record { short = omega (arith, covered_long block size c); seals = rw (twice block size c, same) (take-append-drop n sealed) }
+  same_tag bytes end parts short same =
+      record { short = omega (arith, covered_long block size bytes); seals = rw (twice block size bytes, same) (sym parts) }
 
 -- a sealing that is written in two parts
 pub sealed_parts : (block : ℕ → List ℕ) (size : ℕ) (tag : List ℕ → List ℕ) (extra : ℕ) (plain end : List ℕ) (room : ℕ) → length end ≡ extra → end ≡ tag (covered block size plain) → length plain + extra ≤ room → paste (filled (covered block size plain) room) (length plain) end extra ≡ filled (sealing_of block size tag plain) room

@@ -4,11 +4,11 @@
 //! A scheme says which keystream and which tag. Sealing and opening, and their laws, stand here once for every scheme.
 #![tactic(auto)]
 
-ghost use Rattle.std.specs.Prelude.{◌≡◌, ℕ, ◌+◌, ◌<◌, ◌≤◌, List, ◌++◌, length, drop};
+ghost use Rattle.std.specs.Prelude.{◌≡◌, ℕ, ◌+◌, ◌<◌, ◌≤◌, List, ◌++◌, length, drop, bit_xor, slice_index, EachIndex};
 ghost use Rattle.octets.specs.Buffers.{zeros, filled};
 ghost use Rattle.sealer.specs.Limits.{plain_limit, overhead_limit};
 ghost use Rattle.sealer.specs.Outcomes.{Sealed, Opened};
-ghost use Rattle.sealing.specs.Covering.{Laid, covered, sealing_of};
+ghost use Rattle.sealing.specs.Covering.{covered, sealing_of};
 ghost use Rattle.sealing.specs.Laws.{SealingLaws};
 
 use octets::{clear, same_bytes};
@@ -65,18 +65,14 @@ pub trait Scheme {
     ghost tagged: { (s : Self) (key heading bytes : List ℕ) → length (tag s key heading bytes) ≡ extra s };
 }
 
-// Writes the XOR of the plain's bytes from a place on, as many as a block has, and the block's.
-fn lay(plain: &[u8], block: &[u8; 64], size: usize, out: &mut [u8], at: usize)
-    requires { (length plain.now ≤ length out.old) × ((at < length plain.now) × (size ≤ 64)) }
-    ensures { Laid plain.now block.now size at out.old out.new }
+// Writes the XOR of a part of the plain and a block's first bytes.
+// The bytes written have an index and no zip: a proof knows nothing of what a loop writes through a zip.
+fn lay(part: &[u8], block: &[u8; 64], out: &mut [u8])
+    requires { (length part.now ≤ 64) × (length out.old ≡ length part.now) }
+    ensures { EachIndex out.new (λ k. slice_index out.new k ≡ bit_xor (slice_index part.now k) (slice_index block.now k)) }
 {
-    let end = if plain.len() - at < size {
-        plain.len()
-    } else {
-        at + size
-    };
-    for k in at..end {
-        out[k] = plain[k] ^ block[k - at];
+    for (k, byte) in out.iter_mut().enumerate() {
+        *byte = part[k] ^ block[k];
     }
 }
 
@@ -86,13 +82,10 @@ fn cover<S: Scheme>(scheme: &S, key: &[u8; 32], plain: &[u8], out: &mut [u8], pa
     ensures { out.new ≡ covered (S.Scheme.block scheme.now key.now) (S.Scheme.size scheme.now) plain.now ++ drop (length plain.now) out.old }
 {
     let size = scheme.size();
-    let mut at = 0;
-    let mut index = 0;
-    while at < plain.len() {
-        scheme.block(key, index, pad);
-        lay(plain, pad, size, out, at);
-        at += size;
-        index += 1;
+    for (index, part) in plain.chunks(size).enumerate() {
+        scheme.block(key, index as u32, pad);
+        let at = index * size;
+        lay(part, pad, &mut out[at..at + part.len()]);
     }
 }
 
@@ -105,6 +98,7 @@ fn clear_both(out: &mut [u8], pad: &mut [u8; 64])
     *pad = [0; 64];
 }
 
+// Key, heading and pad are no struct: one of three borrows would be built and taken apart at each call.
 /// Seals a plain by a scheme. The pad holds zeros afterwards, also where the plain is declined.
 pub fn seal<S: Scheme>(
     scheme: &S,
@@ -125,8 +119,8 @@ pub fn seal<S: Scheme>(
     }
     cover(scheme, key, plain, out, pad);
     let mut tag = [0; OVERHEAD_LIMIT];
-    scheme.tag(key, heading, &out[0..n], &mut tag, pad);
-    out[n..n + extra].copy_from_slice(&tag[0..extra]);
+    scheme.tag(key, heading, &out[..n], &mut tag, pad);
+    out[n..n + extra].copy_from_slice(&tag[..extra]);
     Ok(n + extra)
 }
 
@@ -147,16 +141,19 @@ pub fn open<S: Scheme>(
         return Err(Refusal::ShortBuffer);
     }
     let extra = scheme.extra();
-    if sealed.len() < extra || sealed.len() - extra > PLAIN_LIMIT {
+    let Some(n) = sealed.len().checked_sub(extra) else {
+        return Ok(None);
+    };
+    if n > PLAIN_LIMIT {
         return Ok(None);
     }
-    let n = sealed.len() - extra;
+    let (bytes, end) = sealed.split_at(n);
     let mut tag = [0; OVERHEAD_LIMIT];
-    scheme.tag(key, heading, &sealed[0..n], &mut tag, pad);
-    if !same_bytes(&tag[0..extra], &sealed[n..]) {
+    scheme.tag(key, heading, bytes, &mut tag, pad);
+    if !same_bytes(&tag[..extra], end) {
         return Ok(None);
     }
-    cover(scheme, key, &sealed[0..n], out, pad);
+    cover(scheme, key, bytes, out, pad);
     clear(pad);
     Ok(Some(n))
 }

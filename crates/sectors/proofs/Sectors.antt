@@ -1,10 +1,15 @@
 -- A slot that is changed within its sector, and the sector put back whole.
-use Rattle.std.proofs.Common.{◌≡◌, ℕ, ◌+◌, ◌*◌, ◌/◌, ◌≤◌, List, ◌++◌, length, take, drop, sym, ap, ◌∙◌, append_assoc, div-mul-le_self, arith, take-add}
+use Rattle.std.proofs.Common.{◌≡◌, ℕ, ◌+◌, ◌*◌, ◌/◌, ◌%◌, ◌<◌, ◌≤◌, List, ◌++◌, length, take, drop, Ok, sym, ap, ◌∙◌, append_assoc, div-mul-le_self, arith, take-add}
 use lib.Seq.{paste, length-paste}
+use borrow.Rule.Slice.PartMut.{put_mid}
 use Rattle.std.proofs.lemmas.List.{drop-drop, take-take, take_all, take-append-drop, drop-append-le, length-take, length-drop}
-use Rattle.device.specs.Effects.{slot_size}
-use Rattle.medium.proofs.Rows.{pasting}
-use Rattle.sectors.specs.Sectors.{sector_size, sector_slots}
+use Rattle.device.specs.Effects.{Slot, Tearing, slot_size}
+use Rattle.medium.specs.declared.Stroke.{Stroke}
+use Rattle.medium.specs.State.{State, placed}
+use Rattle.medium.specs.Appointed.{Counting, partly}
+use Rattle.medium.proofs.Rows.{put_whole}
+use Rattle.medium.proofs.Meanings.{tears}
+use Rattle.sectors.specs.Sectors.{sector_size, sector_slots, slots_by_sector}
 
 pub room : (l : ℕ) → l / sector_size * sector_slots * slot_size ≤ l
 room l = let d = div-mul-le_self l sector_size in omega arith
@@ -26,4 +31,22 @@ within w s at m row b h f l =
     let same : (take s row ++ ((take at (drop s row) ++ take m b) ++ drop (at + m) old)) ++ drop (s + w) row ≡ ((take s row ++ take at (drop s row)) ++ take m b) ++ (drop (at + m) old ++ drop (s + w) row) = simp append_assoc in
     left ∙ same ∙ sym right
 
-pub ruleset putting = (pasting, within)
+-- a sector that is read, changed in one slot and put back: that slot's bytes are in place
+pub stored : (d d' : State) (i k w : ℕ) (b x old : List ℕ) → d' ≡ placed (i / sector_slots * sector_slots) (put_mid (i % sector_slots * slot_size) k old x) d → x ≡ b → old ≡ take w (drop (i / sector_slots * sector_slots * slot_size) d.row) → w ≡ sector_size → k ≡ length b → i < length d.row / sector_size * sector_slots → length b ≤ slot_size → d' ≡ placed i b d
+stored d d' i k w b x old p q o e f h l =
+    let s : ℕ = i / sector_slots * sector_slots * slot_size in
+    let at : ℕ = i % sector_slots * slot_size in
+    let new : List ℕ = put_mid at k old x in
+    let read : old ≡ take sector_size (drop s d.row) = o ∙ ap (λ y. take y (drop s d.row)) e in
+    let changed : new ≡ paste old at b (length b) = ap (put_mid at k old) q ∙ put_whole at k old b f in
+    let long : length old ≡ sector_size = ap length read ∙ simp (length-take, length-drop) (omega arith) in
+    let longer : length new ≡ sector_size = ap length changed ∙ length-paste old at b (length b) (omega arith) (omega arith) ∙ long in
+    let row : paste d.row s new (length new) ≡ paste d.row (i * slot_size) b (length b) =
+    ap (paste d.row s new) longer
+    ∙ ap (λ y. paste d.row s y sector_size) (changed ∙ ap (λ y. paste y at b (length b)) read)
+    ∙ within sector_size s at (length b) d.row b (omega arith) (omega arith) (omega arith)
+    ∙ ap (λ y. paste d.row y b (length b)) (omega arith) in
+    p ∙ ap (λ y. record { row = y; power = d.power; cut = d.cut }) row
+
+pub writes : (d : State) (i : ℕ) (b : Slot) (n k : ℕ) (s : Stroke) (u d' : State) → Counting n d i (Ok s) u → d' ≡ placed i (take k b) u → n ≡ length (slots_by_sector d.row) → k ≡ partly s.standing → length b ≡ slot_size → Tearing (slots_by_sector d.row) d.power i b s.answer (slots_by_sector d'.row) d'.power
+writes = tears (λ l. l / sector_size * sector_slots) room

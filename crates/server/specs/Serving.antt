@@ -72,19 +72,26 @@ module _ {D G S : Type 0} where
   FaultOf c (Refused m f) = (f ≡ fault_of c (halt_in f)) × (wants_power (halt_in f) ≡ false)
   FaultOf c (Cut m f) = (f ≡ fault_of c (halt_in f)) × (wants_power (halt_in f) ≡ true)
 
-  -- a server that was to be made or reopened is handed back: running, or cold with the fault
-  abbrev pub started_by : D → G → S → Result (Unit {0}) Fault → Result (Running D G S) (Cold D G S × Fault)
-  started_by d g w (Ok u) = Ok (record { device = d; generator = g; sealer = w })
-  started_by d g w (Err f) = Err (record { device = d; generator = g; sealer = w }, f)
+  -- the same parts, cold or running
+  abbrev pub cold_of : Running D G S → Cold D G S
+  cold_of m = record { device = m.device; generator = m.generator; sealer = m.sealer }
+
+  abbrev pub running_of : Cold D G S → Running D G S
+  running_of m = record { device = m.device; generator = m.generator; sealer = m.sealer }
+
+  -- a server that was to be made or reopened is handed back: running, or cold still with the fault
+  abbrev pub started_by : Cold D G S → Result (Unit {0}) Fault → Result (Running D G S) (Cold D G S × Fault)
+  started_by m (Ok u) = Ok (running_of m)
+  started_by m (Err f) = Err (m, f)
 
   -- a running server is handed back: cold after want of power, else running
-  abbrev pub refused_by : Bool → D → G → S → Fault → Answered D G S
-  refused_by true d g w f = Cut (record { device = d; generator = g; sealer = w }) f
-  refused_by false d g w f = Refused (record { device = d; generator = g; sealer = w }) f
+  abbrev pub refused_by : Bool → Running D G S → Fault → Answered D G S
+  refused_by true m f = Cut (cold_of m) f
+  refused_by false m f = Refused m f
 
-  abbrev pub answered_by : D → G → S → Result (ℕ × ℕ) Fault → Answered D G S
-  answered_by d g w (Ok a) = Done (record { device = d; generator = g; sealer = w }) a
-  answered_by d g w (Err f) = refused_by (is_no_power f.refusal) d g w f
+  abbrev pub answered_by : Running D G S → Result (ℕ × ℕ) Fault → Answered D G S
+  answered_by m (Ok a) = Done m a
+  answered_by m (Err f) = refused_by (is_no_power f.refusal) m f
 
   module _ (slots : D → Slots) (powered : D → Bool) where
     -- issue: what it does, that a past goes on, and the law over pasts

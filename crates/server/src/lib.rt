@@ -9,7 +9,7 @@ ghost use Rattle.std.specs.Prelude.{◌≡◌, length};
 ghost use Rattle.octets.specs.Buffers.{zeros};
 ghost use Rattle.scratch.specs.Clean.{Clean};
 ghost use Rattle.rules.specs.Kits.{kit_of};
-ghost use Rattle.server.specs.Serving.{MakeCall, IssueCall, RedeemCall, CloseCall, ReopenCall, started_by, answered_by};
+ghost use Rattle.server.specs.Serving.{MakeCall, IssueCall, RedeemCall, CloseCall, ReopenCall, cold_of, running_of, started_by, answered_by};
 
 mod parts;
 
@@ -36,76 +36,67 @@ pub struct Running<D, G, S> {
 
 /// What issue and redeem answer: a running server with two numbers (the length of what was written, the generator
 /// calls made) or with the fault, or a cold server after want of power.
+// Three cases, not a `Result`: the fault comes with one of two types of server, so its `Err` would hold a second `Result`, and a
+// caller would take two apart to learn what one match tells here.
 pub enum Answered<D, G, S> {
     Done(Running<D, G, S>, (usize, u32)),
     Refused(Running<D, G, S>, Fault),
     Cut(Cold<D, G, S>, Fault),
 }
 
-// Hands a server back that was to be made or reopened: running, or cold again with the fault.
-fn started<D, G, S>(
-    device: D,
-    generator: G,
-    sealer: S,
-    answer: Result<(), Fault>,
-) -> Result<Running<D, G, S>, (Cold<D, G, S>, Fault)>
-    ensures { result ≡ started_by device generator sealer answer }
-{
-    match answer {
-        Ok(()) => Ok(Running {
+impl<D, G, S> Cold<D, G, S> {
+    // The same parts, running.
+    fn running(self) -> Running<D, G, S>
+        ensures { result ≡ running_of self }
+    {
+        let Cold {
             device,
             generator,
             sealer,
-        }),
-        Err(fault) => Err((
-            Cold {
-                device,
-                generator,
-                sealer,
-            },
-            fault,
-        )),
+        } = self;
+        Running {
+            device,
+            generator,
+            sealer,
+        }
+    }
+
+    // Hands a server back that was to be made or reopened: running, or cold still with the fault.
+    fn started(self, answer: Result<(), Fault>) -> Result<Running<D, G, S>, (Cold<D, G, S>, Fault)>
+        ensures { result ≡ started_by self answer }
+    {
+        match answer {
+            Ok(()) => Ok(self.running()),
+            Err(fault) => Err((self, fault)),
+        }
     }
 }
 
-// Hands a running server back: cold after want of power, else running.
-fn handed_back<D, G, S>(
-    device: D,
-    generator: G,
-    sealer: S,
-    answer: Result<(usize, u32), Fault>,
-) -> Answered<D, G, S>
-    ensures { result ≡ answered_by device generator sealer answer }
-{
-    match answer {
-        Ok(numbers) => Answered::Done(
-            Running {
-                device,
-                generator,
-                sealer,
-            },
-            numbers,
-        ),
-        Err(fault) => {
-            if fault.refusal == Refusal::NoPower {
-                Answered::Cut(
-                    Cold {
-                        device,
-                        generator,
-                        sealer,
-                    },
-                    fault,
-                )
-            } else {
-                Answered::Refused(
-                    Running {
-                        device,
-                        generator,
-                        sealer,
-                    },
-                    fault,
-                )
-            }
+impl<D, G, S> Running<D, G, S> {
+    // The same parts, cold.
+    fn cold(self) -> Cold<D, G, S>
+        ensures { result ≡ cold_of self }
+    {
+        let Running {
+            device,
+            generator,
+            sealer,
+        } = self;
+        Cold {
+            device,
+            generator,
+            sealer,
+        }
+    }
+
+    // Hands a running server back: cold after want of power, else running.
+    fn answered(self, answer: Result<(usize, u32), Fault>) -> Answered<D, G, S>
+        ensures { result ≡ answered_by self answer }
+    {
+        match answer {
+            Ok(numbers) => Answered::Done(self, numbers),
+            Err(fault) if fault.refusal == Refusal::NoPower => Answered::Cut(self.cold(), fault),
+            Err(fault) => Answered::Refused(self, fault),
         }
     }
 }
@@ -136,115 +127,99 @@ impl<D: WriteSlots, G: Generator, S: Sealer> Cold<D, G, S> {
 
     /// Makes a tree of a root value under a key name: whatever the device held is gone.
     pub fn make(
-        self,
+        mut self,
         root: &[u8; 32],
         name: &[u8; 16],
         scratch: &mut Scratch,
     ) -> Result<Running<D, G, S>, (Cold<D, G, S>, Fault)>
-        ensures did { MakeCall D.ReadSlots.slots D.ReadSlots.powered (kit_of (G.Generator.expansion self.generator) (G.Generator.code self.generator) (S.Sealer.sealing self.sealer) (S.Sealer.overhead self.sealer) (S.Sealer.number self.sealer)) self root.now name.now result }
+        ensures did { MakeCall D.slots D.powered (kit_of (G.expansion self.generator) (G.code self.generator) (S.sealing self.sealer) (S.overhead self.sealer) (S.number self.sealer)) self root.now name.now result }
         ensures clean { Clean scratch.new }
     {
-        let Cold {
-            mut device,
-            generator,
-            sealer,
-        } = self;
-        let made = parts::make(&mut device, &generator, &sealer, root, name, scratch);
-        started(device, generator, sealer, made)
+        let made = parts::make(
+            &mut self.device,
+            &self.generator,
+            &self.sealer,
+            root,
+            name,
+            scratch,
+        );
+        self.started(made)
     }
 
     /// Reopens a tree: reads its file, and puts zeros into every free slot.
     pub fn reopen(
-        self,
+        mut self,
         marks: &mut [u8],
         scratch: &mut Scratch,
     ) -> Result<Running<D, G, S>, (Cold<D, G, S>, Fault)>
-        ensures did { ReopenCall D.ReadSlots.slots D.ReadSlots.powered (kit_of (G.Generator.expansion self.generator) (G.Generator.code self.generator) (S.Sealer.sealing self.sealer) (S.Sealer.overhead self.sealer) (S.Sealer.number self.sealer)) self (length marks.old) result }
+        ensures did { ReopenCall D.slots D.powered (kit_of (G.expansion self.generator) (G.code self.generator) (S.sealing self.sealer) (S.overhead self.sealer) (S.number self.sealer)) self (length marks.old) result }
         ensures marks { marks.new ≡ zeros (length marks.old) }
         ensures clean { Clean scratch.new }
     {
-        let Cold {
-            mut device,
-            generator,
-            sealer,
-        } = self;
-        let reopened = parts::reopen(&mut device, &generator, &sealer, marks, scratch);
-        started(device, generator, sealer, reopened)
+        let reopened = parts::reopen(
+            &mut self.device,
+            &self.generator,
+            &self.sealer,
+            marks,
+            scratch,
+        );
+        self.started(reopened)
     }
 }
 
 impl<D: WriteSlots, G: Generator, S: Sealer> Running<D, G, S> {
     /// Closes the server; nothing is written.
     pub fn close(self) -> Cold<D, G, S>
-        ensures { CloseCall D.ReadSlots.slots D.ReadSlots.powered (kit_of (G.Generator.expansion self.generator) (G.Generator.code self.generator) (S.Sealer.sealing self.sealer) (S.Sealer.overhead self.sealer) (S.Sealer.number self.sealer)) self result }
+        ensures { CloseCall D.slots D.powered (kit_of (G.expansion self.generator) (G.code self.generator) (S.sealing self.sealer) (S.overhead self.sealer) (S.number self.sealer)) self result }
     {
-        let Running {
-            device,
-            generator,
-            sealer,
-        } = self;
-        Cold {
-            device,
-            generator,
-            sealer,
-        }
+        self.cold()
     }
 
     /// Issues the next number's ticket for a state record.
     pub fn issue(
-        self,
+        mut self,
         record: &[u8],
         ticket: &mut [u8],
         marks: &mut [u8],
         scratch: &mut Scratch,
     ) -> Answered<D, G, S>
-        ensures did { IssueCall D.ReadSlots.slots D.ReadSlots.powered (kit_of (G.Generator.expansion self.generator) (G.Generator.code self.generator) (S.Sealer.sealing self.sealer) (S.Sealer.overhead self.sealer) (S.Sealer.number self.sealer)) self «record».now (length ticket.old) (length marks.old) ticket.new result }
+        ensures did { IssueCall D.slots D.powered (kit_of (G.expansion self.generator) (G.code self.generator) (S.sealing self.sealer) (S.overhead self.sealer) (S.number self.sealer)) self «record».now (length ticket.old) (length marks.old) ticket.new result }
         ensures marks { marks.new ≡ zeros (length marks.old) }
         ensures clean { Clean scratch.new }
     {
-        let Running {
-            mut device,
-            generator,
-            sealer,
-        } = self;
         let issued = parts::issue(
-            &mut device,
-            &generator,
-            &sealer,
+            &mut self.device,
+            &self.generator,
+            &self.sealer,
             record,
             ticket,
             marks,
             scratch,
         );
-        handed_back(device, generator, sealer, issued)
+        self.answered(issued)
     }
 
     /// Redeems a ticket: its number is spent, and its state given, at most once.
     pub fn redeem(
-        self,
+        mut self,
         ticket: &[u8],
         state: &mut [u8],
         marks: &mut [u8],
         scratch: &mut Scratch,
     ) -> Answered<D, G, S>
-        ensures did { RedeemCall D.ReadSlots.slots D.ReadSlots.powered (kit_of (G.Generator.expansion self.generator) (G.Generator.code self.generator) (S.Sealer.sealing self.sealer) (S.Sealer.overhead self.sealer) (S.Sealer.number self.sealer)) self ticket.now (length state.old) (length marks.old) state.new result }
+        ensures did { RedeemCall D.slots D.powered (kit_of (G.expansion self.generator) (G.code self.generator) (S.sealing self.sealer) (S.overhead self.sealer) (S.number self.sealer)) self ticket.now (length state.old) (length marks.old) state.new result }
         ensures marks { marks.new ≡ zeros (length marks.old) }
         ensures clean { Clean scratch.new }
     {
-        let Running {
-            mut device,
-            generator,
-            sealer,
-        } = self;
         let redeemed = parts::redeem(
-            &mut device,
-            &generator,
-            &sealer,
+            &mut self.device,
+            &self.generator,
+            &self.sealer,
             ticket,
             state,
             marks,
             scratch,
         );
-        handed_back(device, generator, sealer, redeemed)
+        self.answered(redeemed)
     }
 }

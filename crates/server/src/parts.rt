@@ -1,19 +1,29 @@
-//! The calls over the parts of a server, lent for the call. What stops a call becomes its fault here: the call and the layer
-//! are added.
+//! The calls over the parts of a server, lent for the call. What stops a call becomes its fault here, in `told`.
+// Device, generator and sealer stay apart, here and in the crates for each call: the device is lent to be written, the two others to
+// be read, and behind one `&mut` each contract would also say that they stay.
 ghost use Rattle.std.specs.Prelude.{◌≡◌, length};
 ghost use Rattle.octets.specs.Buffers.{zeros};
 ghost use Rattle.scratch.specs.Clean.{Clean};
 ghost use Rattle.rules.specs.Kits.{kit_of};
-ghost use Rattle.server.specs.Serving.{MakeWithin, IssueWithin, RedeemWithin, ReopenWithin};
+ghost use Rattle.server.specs.Serving.{faulted, MakeWithin, IssueWithin, RedeemWithin, ReopenWithin};
 
 use device::WriteSlots;
-use fault::{Call, Fault};
+use fault::{Call, Fault, Halt};
 use generator::Generator;
 use issuing::issue_on;
+use layout::Numbers;
 use opening::{make_on, reopen_on};
 use redeeming::redeem_on;
 use scratch::Scratch;
 use sealer::Sealer;
+
+// What a call answers: the call and the layer are added to what stopped it, and it goes up by `?`, as in the layers below.
+fn told<T>(call: Call, answer: Result<T, Halt>) -> Result<T, Fault>
+    ensures { result ≡ faulted call answer }
+{
+    let done = answer.map_err(|halt| halt.during(call))?;
+    Ok(done)
+}
 
 pub(super) fn make<D: WriteSlots, G: Generator, S: Sealer>(
     device: &mut D,
@@ -23,20 +33,16 @@ pub(super) fn make<D: WriteSlots, G: Generator, S: Sealer>(
     name: &[u8; 16],
     scratch: &mut Scratch,
 ) -> Result<(), Fault>
-    ensures did { MakeWithin (kit_of (G.Generator.expansion generator.now) (G.Generator.code generator.now) (S.Sealer.sealing sealer.now) (S.Sealer.overhead sealer.now) (S.Sealer.number sealer.now)) (D.ReadSlots.slots device.old) (D.ReadSlots.powered device.old) root.now name.now result (D.ReadSlots.slots device.new) (D.ReadSlots.powered device.new) }
+    ensures did { MakeWithin (kit_of (G.expansion generator.now) (G.code generator.now) (S.sealing sealer.now) (S.overhead sealer.now) (S.number sealer.now)) (D.slots device.old) (D.powered device.old) root.now name.now result (D.slots device.new) (D.powered device.new) }
     ensures clean { Clean scratch.new }
 {
-    let made = make_on(
-        device,
-        root,
-        name,
-        generator.number(),
-        sealer.number(),
-        &mut scratch.slot,
-    );
+    let numbers = Numbers {
+        generator: generator.number(),
+        sealer: sealer.number(),
+    };
+    let made = make_on(device, root, name, numbers, &mut scratch.slot);
     scratch.wipe();
-    made.map_err(|halt| halt.during(Call::Make))?;
-    Ok(())
+    told(Call::Make, made)
 }
 
 pub(super) fn reopen<D: WriteSlots, G: Generator, S: Sealer>(
@@ -46,20 +52,17 @@ pub(super) fn reopen<D: WriteSlots, G: Generator, S: Sealer>(
     marks: &mut [u8],
     scratch: &mut Scratch,
 ) -> Result<(), Fault>
-    ensures did { ReopenWithin (kit_of (G.Generator.expansion generator.now) (G.Generator.code generator.now) (S.Sealer.sealing sealer.now) (S.Sealer.overhead sealer.now) (S.Sealer.number sealer.now)) (D.ReadSlots.slots device.old) (D.ReadSlots.powered device.old) (length marks.old) result (D.ReadSlots.slots device.new) (D.ReadSlots.powered device.new) }
+    ensures did { ReopenWithin (kit_of (G.expansion generator.now) (G.code generator.now) (S.sealing sealer.now) (S.overhead sealer.now) (S.number sealer.now)) (D.slots device.old) (D.powered device.old) (length marks.old) result (D.slots device.new) (D.powered device.new) }
     ensures marks { marks.new ≡ zeros (length marks.old) }
     ensures clean { Clean scratch.new }
 {
-    let reopened = reopen_on(
-        device,
-        generator.number(),
-        sealer.number(),
-        marks,
-        &mut scratch.slot,
-    );
+    let numbers = Numbers {
+        generator: generator.number(),
+        sealer: sealer.number(),
+    };
+    let reopened = reopen_on(device, numbers, marks, &mut scratch.slot);
     scratch.wipe();
-    reopened.map_err(|halt| halt.during(Call::Reopen))?;
-    Ok(())
+    told(Call::Reopen, reopened)
 }
 
 pub(super) fn issue<D: WriteSlots, G: Generator, S: Sealer>(
@@ -71,14 +74,12 @@ pub(super) fn issue<D: WriteSlots, G: Generator, S: Sealer>(
     marks: &mut [u8],
     scratch: &mut Scratch,
 ) -> Result<(usize, u32), Fault>
-    ensures did { IssueWithin (kit_of (G.Generator.expansion generator.now) (G.Generator.code generator.now) (S.Sealer.sealing sealer.now) (S.Sealer.overhead sealer.now) (S.Sealer.number sealer.now)) (D.ReadSlots.slots device.old) (D.ReadSlots.powered device.old) «record».now (length ticket.old) (length marks.old) result ticket.new (D.ReadSlots.slots device.new) (D.ReadSlots.powered device.new) }
+    ensures did { IssueWithin (kit_of (G.expansion generator.now) (G.code generator.now) (S.sealing sealer.now) (S.overhead sealer.now) (S.number sealer.now)) (D.slots device.old) (D.powered device.old) «record».now (length ticket.old) (length marks.old) result ticket.new (D.slots device.new) (D.powered device.new) }
     ensures marks { marks.new ≡ zeros (length marks.old) }
     ensures clean { Clean scratch.new }
 {
-    let numbers = issue_on(device, generator, sealer, record, ticket, marks, scratch).map_err(
-        |halt| halt.during(Call::Issue),
-    )?;
-    Ok(numbers)
+    let issued = issue_on(device, generator, sealer, record, ticket, marks, scratch);
+    told(Call::Issue, issued)
 }
 
 pub(super) fn redeem<D: WriteSlots, G: Generator, S: Sealer>(
@@ -90,12 +91,10 @@ pub(super) fn redeem<D: WriteSlots, G: Generator, S: Sealer>(
     marks: &mut [u8],
     scratch: &mut Scratch,
 ) -> Result<(usize, u32), Fault>
-    ensures did { RedeemWithin (kit_of (G.Generator.expansion generator.now) (G.Generator.code generator.now) (S.Sealer.sealing sealer.now) (S.Sealer.overhead sealer.now) (S.Sealer.number sealer.now)) (D.ReadSlots.slots device.old) (D.ReadSlots.powered device.old) ticket.now (length state.old) (length marks.old) result state.new (D.ReadSlots.slots device.new) (D.ReadSlots.powered device.new) }
+    ensures did { RedeemWithin (kit_of (G.expansion generator.now) (G.code generator.now) (S.sealing sealer.now) (S.overhead sealer.now) (S.number sealer.now)) (D.slots device.old) (D.powered device.old) ticket.now (length state.old) (length marks.old) result state.new (D.slots device.new) (D.powered device.new) }
     ensures marks { marks.new ≡ zeros (length marks.old) }
     ensures clean { Clean scratch.new }
 {
-    let numbers = redeem_on(device, generator, sealer, ticket, state, marks, scratch).map_err(
-        |halt| halt.during(Call::Redeem),
-    )?;
-    Ok(numbers)
+    let redeemed = redeem_on(device, generator, sealer, ticket, state, marks, scratch);
+    told(Call::Redeem, redeemed)
 }

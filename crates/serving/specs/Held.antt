@@ -1,5 +1,5 @@
 -- A server's answers taken apart, and the records of its file.
-use Rattle.std.specs.Prelude.{ℕ, Bool, cond, List, [], length, Option, Some, None, Result, Ok, Err, nat_lt, slice_index_or}
+use Rattle.std.specs.Prelude.{ℕ, Bool, cond, [], length, Option, Some, None, Result, Ok, Err, nat_lt, slice_index_or}
 use Rattle.device.specs.Effects.{Slots}
 use Rattle.fault.specs.declared.Fault.{Fault}
 use Rattle.layout.specs.declared.NodeFields.{NodeFields}

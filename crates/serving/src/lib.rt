@@ -5,13 +5,20 @@ ghost use Rattle.std.specs.Prelude.{◌≡◌};
 ghost use Rattle.serving.specs.Held.{parts_of, opening_of, device_in, record_in};
 ghost use Rattle.tree.specs.Nodes.{tree_levels};
 
+use beds::slot_at;
 use device::{ReadSlots, WriteSlots};
 use fault::Fault;
 use generator::Generator;
-use layout::{NodeFields, decode_node};
+use layout::{NodeFields, Numbers, decode_node};
 use sealer::Sealer;
 use server::{Answered, Cold, Running};
 use tree::LEVELS;
+
+/// The numbers of the first generator and the first sealer.
+pub const PAIR: Numbers = Numbers {
+    generator: 1,
+    sealer: 1,
+};
 
 /// A server that runs, or a cold one.
 pub type Held<D, G, S> = Result<Running<D, G, S>, Cold<D, G, S>>;
@@ -55,9 +62,5 @@ pub fn device_of<D: WriteSlots, G: Generator + Copy, S: Sealer + Copy>(server: H
 pub fn record_at<D: ReadSlots>(device: &D, slot: u16) -> Option<NodeFields>
     ensures { result ≡ record_in tree_levels (D.slots device.now) (D.powered device.now) slot }
 {
-    let mut bytes = [0; 64];
-    match device.read(slot as usize, &mut bytes) {
-        Ok(()) => decode_node(LEVELS, &bytes),
-        Err(_) => None,
-    }
+    decode_node(LEVELS, &slot_at(device, slot as usize)?)
 }

@@ -8,7 +8,8 @@ use Rattle.octets.specs.Buffers.{zeros}
 use Rattle.session.specs.declared.Suite.{Suite}
 use Rattle.session.specs.declared.SessionState.{SessionState}
 use Rattle.session.specs.Limits.{name_limit, most_length}
-use Rattle.session.specs.Records.{blank, Typed, Fits, fields_fit, encode_of, record_suite, read_under, decode_of, written_of}
+use Rattle.octets.specs.Buffers.{is_blank}
+use Rattle.session.specs.Records.{Typed, Fits, fields_fit, encode_of, record_suite, read_under, decode_of, written_of}
 use Rattle.session.specs.Laws.{RecordLaws, LifetimeExamples, lasting}
 use Rattle.session.proofs.Rows.{blank_zeros, zeros_blank}
 use Rattle.session.proofs.Laid.{suite_laid}
@@ -30,7 +31,7 @@ fields_fit_is s n =
           }),
       λ f.
           and_from _ _ (and_from _ _ (le-leb _ _ f.lived) (le-leb _ _ f.expires))
-          (and_from _ _ (le-leb _ _ f.named) (ap blank f.after ∙ zeros_blank (name_limit - s.name_length))),
+          (and_from _ _ (le-leb _ _ f.named) (ap is_blank f.after ∙ zeros_blank (name_limit - s.name_length))),
     )
 
 -- the same of what was found to be the test's answer

@@ -5,9 +5,9 @@ use Rattle.std.proofs.lemmas.Int.Digits.{number_lt}
 use Rattle.std.proofs.ByRecursion.{All-from_get_or}
 use Rattle.std.proofs.lemmas.List.{append-nil, append_assoc, length-append, length-replicate, set_split, take_at, take_all, drop_at, drop-drop, drop-replicate, take-append-drop, get_or-take, get_or-drop, get_or_past, length-take}
 use Rattle.std.proofs.lemmas.Bool.{cases_lt, and_parts, eqb-true}
-use Rattle.octets.specs.Buffers.{zeros, filled}
+use Rattle.octets.specs.Buffers.{zeros, filled, is_blank}
 use Rattle.octets.specs.Fields.{number_of}
-use Rattle.session.specs.Records.{Bytes, blank}
+use Rattle.session.specs.Records.{Bytes}
 
 -- what follows the part that stands at a place
 pub past : (k m : ℕ) (b x r : List ℕ) → drop k b ≡ x ++ r → length x ≡ m → drop (k + m) b ≡ r
@@ -63,14 +63,14 @@ filled_byte p n at x e h =
     set_split z at x l ∙ rw (← add-one at, ← append_assoc (take at z) (x ∷ []) (drop (at + 1) z)) (filled_next p (x ∷ []) n at 1 e refl h)
 
 -- a blank row is a row of zeros, and the other way round
-pub blank_zeros : (xs : List ℕ) → blank xs ≡ true → xs ≡ zeros (length xs)
+pub blank_zeros : (xs : List ℕ) → is_blank xs ≡ true → xs ≡ zeros (length xs)
 blank_zeros [] e = refl
 blank_zeros (x ∷ xs) e =
-    let p = and_parts (eqb x 0) (blank xs) e in
+    let p = and_parts (eqb x 0) (is_blank xs) e in
     let z : x ≡ 0 = eqb-true x 0 p.0 in
     let r : xs ≡ zeros (length xs) = blank_zeros xs p.1 in
     cc
 
-pub zeros_blank : (n : ℕ) → blank (zeros n) ≡ true
+pub zeros_blank : (n : ℕ) → is_blank (zeros n) ≡ true
 zeros_blank zero = refl
 zeros_blank (suc n) = zeros_blank n

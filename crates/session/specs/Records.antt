@@ -1,6 +1,6 @@
 -- A session's state and its record.
-use Rattle.std.specs.Prelude.{◌≡◌, ℕ, ◌+◌, ◌-◌, ◌^◌, ◌<◌, ◌≤◌, Bool, true, cond, ◌&&◌, List, [], ◌∷◌, ◌++◌, length, take, drop, is_some, is_ok, Some, None, Ok, Err, Option, Result, ◌==◌, nat_le, nat_lt, slice_index}
-use Rattle.octets.specs.Buffers.{zeros, filled}
+use Rattle.std.specs.Prelude.{◌≡◌, ℕ, ◌+◌, ◌-◌, ◌^◌, ◌<◌, ◌≤◌, Bool, cond, ◌&&◌, List, ◌∷◌, ◌++◌, length, take, drop, is_some, is_ok, Some, None, Ok, Err, Option, Result, ◌==◌, nat_le, nat_lt, slice_index}
+use Rattle.octets.specs.Buffers.{zeros, filled, is_blank}
 use Rattle.octets.specs.Fields.{bytes_of, number_of}
 use Rattle.refusal.specs.declared.Refusal.{Refusal}
 use Rattle.refusal.specs.declared.Refusal.TheVariants.{ShortBuffer, NotARecord}
@@ -12,11 +12,6 @@ use Rattle.session.specs.Suites.{suite_number, suite_of}
 -- every number of the list is a byte
 abbrev pub Bytes : List ℕ → Type 0
 Bytes b = (k : ℕ) → slice_index b k < 256
-
--- every number is zero
-abbrev pub blank : List ℕ → Bool
-blank [] = true
-blank (x ∷ xs) = x == 0 && blank xs
 
 -- a lifetime of at least a second and at most the limit
 abbrev pub lifetime_fits : ℕ → Bool
@@ -40,7 +35,7 @@ pub record Fits (s : SessionState) : Type 0 where
 
 -- the same as a test
 unfoldable pub fields_fit : SessionState → Bool
-fields_fit s = lifetime_fits s.lifetime && (nat_le s.name_length name_limit && blank (drop s.name_length s.name))
+fields_fit s = lifetime_fits s.lifetime && (nat_le s.name_length name_limit && is_blank (drop s.name_length s.name))
 
 -- the record of a state
 unfoldable pub encode_of : SessionState → List ℕ

@@ -5,13 +5,13 @@
 #![tactic(auto)]
 
 ghost use Rattle.std.specs.Prelude.{◌≡◌, ◌+◌, ◌≤◌, length, take, IfOk, Some, Ok, Decides};
-ghost use Rattle.octets.specs.Buffers.{pasted};
+ghost use Rattle.octets.specs.Buffers.{pasted, is_blank};
 ghost use Rattle.session.specs.Limits.{secret_limit, secret_length, name_limit, lifetime_limit, least_length, most_length};
-ghost use Rattle.session.specs.Suites.{suite_number, suite_of};
-ghost use Rattle.session.specs.Records.{lifetime_fits, blank, fields_fit, Fits, Typed, encode_of, laid_out, record_suite, is_record, IsRecord, read_of, decode_of, written_of, buffer_of};
+ghost use Rattle.session.specs.Suites.{suite_number, suite_of, Decodes};
+ghost use Rattle.session.specs.Records.{lifetime_fits, fields_fit, Fits, Typed, encode_of, laid_out, record_suite, is_record, IsRecord, read_of, decode_of, written_of, buffer_of};
 ghost use Rattle.session.specs.Laws.{RecordLaws, LifetimeExamples};
 
-use octets::{clear, get_u16, get_u32, get_u64, put_u16, put_u32, put_u64};
+use octets::{clear, get, is_blank, put};
 use refusal::Refusal;
 
 /// The bytes of a session's secret.
@@ -32,38 +32,42 @@ pub const RECORD_LEAST: usize = SECRET_AT + SECRET_LENGTH + 1;
 /// The bytes of the longest record.
 pub const RECORD_LIMIT: usize = SECRET_AT + SECRET_LENGTH + 1 + NAME_LIMIT;
 
-/// A cipher suite of TLS 1.3.
+/// A cipher suite of TLS 1.3, with its number there.
 #[derive(Clone, Copy, PartialEq, Eq, Debug)]
 pub enum Suite {
-    Aes128GcmSha256,
-    Aes256GcmSha384,
-    ChaCha20Poly1305Sha256,
+    Aes128GcmSha256 = 0x1301,
+    Aes256GcmSha384 = 0x1302,
+    ChaCha20Poly1305Sha256 = 0x1303,
+}
+
+/// A number that no suite has.
+#[derive(Clone, Copy, PartialEq, Eq, Debug)]
+pub struct UnknownSuite(pub u16);
+
+impl From<Suite> for u16 {
+    ghost from_gives = { λ suite number. number ≡ suite_number suite };
+
+    fn from(suite: Suite) -> u16 {
+        suite as u16
+    }
+}
+
+impl TryFrom<u16> for Suite {
+    type Error = UnknownSuite;
+
+    ghost try_from_gives = { Decodes };
+
+    fn try_from(number: u16) -> Result<Suite, UnknownSuite> {
+        match number {
+            0x1301 => Ok(Suite::Aes128GcmSha256),
+            0x1302 => Ok(Suite::Aes256GcmSha384),
+            0x1303 => Ok(Suite::ChaCha20Poly1305Sha256),
+            _ => Err(UnknownSuite(number)),
+        }
+    }
 }
 
 impl Suite {
-    /// The suite's number in TLS.
-    pub fn number(self) -> u16
-        ensures { result ≡ suite_number self }
-    {
-        match self {
-            Suite::Aes128GcmSha256 => 0x1301,
-            Suite::Aes256GcmSha384 => 0x1302,
-            Suite::ChaCha20Poly1305Sha256 => 0x1303,
-        }
-    }
-
-    /// The suite that has a number, if any has.
-    pub fn from_number(number: u16) -> Option<Suite>
-        ensures { result ≡ suite_of number }
-    {
-        match number {
-            0x1301 => Some(Suite::Aes128GcmSha256),
-            0x1302 => Some(Suite::Aes256GcmSha384),
-            0x1303 => Some(Suite::ChaCha20Poly1305Sha256),
-            _ => None,
-        }
-    }
-
     /// The bytes of the secret of a session under the suite.
     pub fn secret_length(self) -> usize
         ensures { result ≡ secret_length self }
@@ -86,6 +90,7 @@ pub struct SessionState {
     pub early_data_limit: u32,
     pub secret: [u8; SECRET_LENGTH],
     /// the name, from the start; zeros after it
+    // a row with a length beside: memory is fixed, and the fields may hold anything, which `fits` judges
     pub name: [u8; NAME_LIMIT],
     pub name_length: u8,
 }
@@ -94,19 +99,7 @@ pub struct SessionState {
 fn lifetime_fits(seconds: u32) -> bool
     ensures { result ≡ lifetime_fits seconds }
 {
-    1 <= seconds && seconds <= LIFETIME_LIMIT
-}
-
-// Whether every byte is zero.
-fn is_blank(part: &[u8]) -> bool
-    ensures { result ≡ blank part.now }
-{
-    for x in part {
-        if *x != 0 {
-            return false;
-        }
-    }
-    true
+    (1..=LIFETIME_LIMIT).contains(&seconds)
 }
 
 // Copies a part into a row at a place.
@@ -128,10 +121,9 @@ fn is_laid_out(suite: Suite, bytes: &[u8]) -> bool
         return false;
     }
     let name_length = bytes[name_at] as usize;
-    if name_length > NAME_LIMIT || !lifetime_fits(get_u32(bytes, 10)) {
-        return false;
-    }
-    bytes.len() == name_at + 1 + name_length
+    name_length <= NAME_LIMIT
+        && lifetime_fits(get(bytes, 10))
+        && bytes.len() == name_at + 1 + name_length
 }
 
 // The suite of a record; none where the bytes are no record.
@@ -142,12 +134,9 @@ fn record_suite(bytes: &[u8]) -> Option<Suite>
     if bytes.len() < RECORD_LEAST {
         return None;
     }
-    let suite = Suite::from_number(get_u16(bytes, 0))?;
-    if is_laid_out(suite, bytes) {
-        Some(suite)
-    } else {
-        None
-    }
+    let number: u16 = get(bytes, 0);
+    let suite = Suite::try_from(number).ok()?;
+    is_laid_out(suite, bytes).then_some(suite)
 }
 
 /// Whether the bytes are the record of some session state.
@@ -169,10 +158,10 @@ fn state_of(suite: Suite, bytes: &[u8]) -> SessionState
     let name = &bytes[name_at + 1..];
     let mut state = SessionState {
         suite,
-        issued_at: get_u64(bytes, 2),
-        lifetime: get_u32(bytes, 10),
-        age_add: get_u32(bytes, 14),
-        early_data_limit: get_u32(bytes, 18),
+        issued_at: get(bytes, 2),
+        lifetime: get(bytes, 10),
+        age_add: get(bytes, 14),
+        early_data_limit: get(bytes, 18),
         secret: [0; SECRET_LENGTH],
         name: [0; NAME_LIMIT],
         name_length: bytes[name_at],
@@ -189,10 +178,8 @@ pub fn read(bytes: &[u8]) -> Result<SessionState, Refusal>
     ensures forth { IfOk result (λ s. Typed s × Fits s × (encode_of s ≡ bytes.now)) }
     ensures back { (s : SessionState) → Typed s → Fits s → encode_of s ≡ bytes.now → result ≡ Ok s }
 {
-    match record_suite(bytes) {
-        Some(suite) => Ok(state_of(suite, bytes)),
-        None => Err(Refusal::NotARecord),
-    }
+    let suite = record_suite(bytes).ok_or(Refusal::NotARecord)?;
+    Ok(state_of(suite, bytes))
 }
 
 impl SessionState {
@@ -203,10 +190,7 @@ impl SessionState {
         ensures decides { Decides result (Fits self.now) }
     {
         let n = self.name_length as usize;
-        if n > NAME_LIMIT || !lifetime_fits(self.lifetime) {
-            return false;
-        }
-        is_blank(&self.name[n..])
+        n <= NAME_LIMIT && lifetime_fits(self.lifetime) && is_blank(&self.name[n..])
     }
 
     /// Writes the record from the buffer's start, with zeros after it, and answers its length.
@@ -224,11 +208,11 @@ impl SessionState {
         if !self.fits() {
             return Err(Refusal::NotARecord);
         }
-        put_u16(out, 0, self.suite.number());
-        put_u64(out, 2, self.issued_at);
-        put_u32(out, 10, self.lifetime);
-        put_u32(out, 14, self.age_add);
-        put_u32(out, 18, self.early_data_limit);
+        put(out, 0, u16::from(self.suite));
+        put(out, 2, self.issued_at);
+        put(out, 10, self.lifetime);
+        put(out, 14, self.age_add);
+        put(out, 18, self.early_data_limit);
         put_part(out, SECRET_AT, &self.secret);
         let name_at = SECRET_AT + self.suite.secret_length();
         out[name_at] = self.name_length;

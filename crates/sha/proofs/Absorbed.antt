@@ -1,6 +1,7 @@
 -- Hash values of messages that are put together from parts.
-use Rattle.std.proofs.Common.{◌≡◌, ℕ, zero, suc, ◌+◌, ◌-◌, ◌*◌, ◌≤◌, List, ◌++◌, length, take, drop, refl, add-zero, add-suc, add-one, arith, length-drop}
-use Rattle.std.proofs.lemmas.List.{take-append-le, drop-append-le, drop-drop, drop_at}
+use Rattle.std.proofs.Common.{◌≡◌, ℕ, zero, suc, ◌+◌, ◌*◌, ◌<◌, ◌≤◌, List, [], ◌∷◌, ◌++◌, length, get_or, drop, refl, add-zero, add-suc, add-one, arith, length-drop, le_of_suc-le-suc, not-suc-le-zero}
+use Rattle.std.specs.List.{flat_map}
+use Rattle.std.proofs.lemmas.List.{take-append-le, drop-append-le, drop-drop, drop_at, take_at}
 use Rattle.sha.specs.Digest.{block_at, absorbed, compressed}
 
 -- a block of m is a block of m and what follows
@@ -33,9 +34,18 @@ unfolding absorbed
 absorbed_right h m p q zero e = rw add-zero (absorbed_left h m p q (omega arith))
 absorbed_right h m p q (suc n) e = rw (add-suc, absorbed_right h m p q n e, block_right m p q n e)
 
--- one block more, in the terms of the slice taken
-pub absorbed_more : (h s b : List ℕ) (i : ℕ) → s ≡ absorbed h b i → compressed s (take ((64 * i + 64) - 64 * i) (drop (64 * i) b)) ≡ absorbed h b (i + 1)
-unfolding absorbed block_at
-absorbed_more h s b i e =
-    let k : (64 * i + 64) - 64 * i ≡ 64 = omega arith in
-    rw (add-one, k, e)
+-- block k of whole blocks joined
+block_of : (bs : List (List ℕ)) (k : ℕ) → ((i : ℕ) → i < length bs → length (get_or bs i []) ≡ 64) → k < length bs → block_at (flat_map (λ x. x) bs) k ≡ get_or bs k []
+unfolding block_at
+block_of [] k all h = absurd (not-suc-le-zero h)
+block_of (b ∷ bs) zero all h = take_at b (flat_map (λ x. x) bs) 64 (all 0 (omega arith))
+block_of (b ∷ bs) (suc k) all h =
+    let s : 64 * suc k ≡ 64 + 64 * k = omega arith in
+    rw (s, ← drop-drop (64 * k) 64 (b ++ flat_map (λ x. x) bs), drop_at b (flat_map (λ x. x) bs) 64 (all 0 (omega arith)))
+    (block_of bs k (λ i l. all (suc i) (omega arith)) (le_of_suc-le-suc h))
+
+-- one block more
+pub absorbed_more : (h s : List ℕ) (bs : List (List ℕ)) (k : ℕ) → ((i : ℕ) → i < length bs → length (get_or bs i []) ≡ 64) → k < length bs
+    → s ≡ absorbed h (flat_map (λ x. x) bs) k → compressed s (get_or bs k []) ≡ absorbed h (flat_map (λ x. x) bs) (k + 1)
+unfolding absorbed
+absorbed_more h s bs k all l e = rw (add-one, e, block_of bs k all l)

@@ -3,8 +3,8 @@ use Rattle.std.proofs.Common.{◌≡◌, ℕ, zero, suc, ◌*◌, ◌/◌, ◌<�
 use Rattle.std.specs.List.{flat_map, AllByRecursion as All}
 use Rattle.std.proofs.ByRecursion.{All-append}
 use Rattle.std.proofs.lemmas.List.FromFn.{length-map-range_with_len}
-use Rattle.sha.specs.Digest.{round_of, rounds_of, scheduled, compressed, absorbed, start_word, start_words, padded, four_bytes, last_value, sha256}
-use Rattle.sha.proofs.Added.{length_added}
+use Rattle.std.proofs.lemmas.Simd.{length-zip2}
+use Rattle.sha.specs.Digest.{plus, added, round_of, rounds_of, scheduled, compressed, absorbed, start_word, start_words, padded, four_bytes, last_value, sha256}
 
 round_long : (k w : ℕ) (s : List ℕ) → length (round_of k w s) ≡ 8
 unfolding round_of
@@ -16,10 +16,10 @@ rounds_long w zero s e = e
 rounds_long w (suc n) s e = round_long _ _ _
 
 pub compressed_long : (h b : List ℕ) → length h ≡ 8 → length (compressed h b) ≡ 8
-unfolding compressed
+unfolding compressed added
 compressed_long h b e =
     let r : length (rounds_of (scheduled b 48) 64 h) ≡ 8 = rounds_long (scheduled b 48) 64 h e in
-    length_added h (rounds_of (scheduled b 48) 64 h) (e ∙ sym r) ∙ e
+    length-zip2 plus h (rounds_of (scheduled b 48) 64 h) (e ∙ sym r) ∙ e
 
 pub absorbed_long : (h m : List ℕ) (n : ℕ) → length h ≡ 8 → length (absorbed h m n) ≡ 8
 unfolding absorbed

@@ -5,6 +5,9 @@ use Rattle.std.proofs.lemmas.List.{drop-append-le, take_all, drop_all, append_as
 use Rattle.std.proofs.lemmas.Slice.{take-put_mid}
 use Rattle.sha.specs.Digest.{block_at, compressed, absorbed, start_words, gap, eight_bytes, padded}
 use Rattle.sha.specs.Hasher.{Fed}
+use Rattle.sha.proofs.Chunks.{blocks_split}
+use Rattle.std.specs.List.{flat_map}
+use Rattle.std.specs.Simd.{first_chunks}
 use Rattle.sha.proofs.Absorbed.{absorbed_left, absorbed_right}
 
 -- the count tells how much of a block is begun
@@ -52,29 +55,28 @@ completed m p s t n k tail state f some size full is done =
     }
 
 -- whole blocks after whole blocks
-pub joined_blocks : (m p s t : List ℕ) (n : ℕ) (state : List ℕ) → Fed m s t n → n % 64 ≡ 0 → length p % 64 ≡ 0
-    → state ≡ absorbed s p (length p / 64)
+pub joined_blocks : (m p s t : List ℕ) (n k : ℕ) (state : List ℕ) → Fed m s t n → n % 64 ≡ 0 → length p ≡ k * 64 → state ≡ absorbed s p k
     → Fed (m ++ p) state t ((n + length p) % 2 ^ 64)
-joined_blocks m p s t n state f none full done =
+joined_blocks m p s t n k state f none full done =
     let e : n % 64 ≡ length m % 64 = begun m s t n f in
     let l : length (m ++ p) ≡ length m + length p = length-append m p in
-    let q : length (m ++ p) / 64 ≡ length m / 64 + length p / 64 = omega arith in
+    let q : length (m ++ p) / 64 ≡ length m / 64 + k = omega arith in
     let r : length (m ++ p) % 64 ≡ 0 = omega arith in
     let w : length m ≡ 64 * (length m / 64) = omega arith in
     let over : drop (64 * (length (m ++ p) / 64)) (m ++ p) ≡ [] = drop_all (64 * (length (m ++ p) / 64)) (m ++ p) (omega arith) in
     record {
-      hashed = rw (q, absorbed_right start_words m p (length m / 64) (length p / 64) w, ← f.hashed) done;
+      hashed = rw (q, absorbed_right start_words m p (length m / 64) k w, ← f.hashed) done;
       rest = rw (over, r);
       count = counted m p s t n f;
     }
 
--- a part cut into three, in the terms of the slices taken
-pub three_parts : (m p : List ℕ) (n w : ℕ) (r : List ℕ) → r ≡ take (length p - n) (drop n p)
-    → ((m ++ take n p) ++ take (w - 0) r) ++ take (length r - w) (drop w r) ≡ m ++ p
-three_parts m p n w r e =
-    let z : w - 0 ≡ w = omega arith in
-    let d : r ≡ drop n p = e ∙ take_rest p n in
-    rw (z, take_rest r w, append_assoc (m ++ take n p) (take w r) (drop w r), take-append-drop w r, d, append_assoc m (take n p) (drop n p), take-append-drop n p)
+-- a part cut into three: the end of the block begun, whole blocks, and the rest
+pub three_parts : (m p : List ℕ) (n : ℕ) (r : List ℕ) (bs : List (List ℕ)) (l : List ℕ) → r ≡ take (length p - n) (drop n p)
+    → bs ≡ first_chunks 64 (length r / 64) r → l ≡ drop (length r / 64 * 64) r → ((m ++ take n p) ++ flat_map (λ x. x) bs) ++ l ≡ m ++ p
+three_parts m p n r bs l e front back =
+    let all : flat_map (λ x. x) bs ++ l ≡ r = rw (front, back) (blocks_split (length r / 64) r) in
+    let rest : r ≡ drop n p = e ∙ take_rest p n in
+    append_assoc (m ++ take n p) (flat_map (λ x. x) bs) l ∙ rw (all, rest, append_assoc, take-append-drop) refl
 
 -- the padding, in the terms of the slices taken: t counts the bytes of m
 pub padding : (m : List ℕ) (t : ℕ) (bits : List ℕ) → t ≡ length m % 2 ^ 64 → bits ≡ eight_bytes ((t * 8) % 2 ^ 64)

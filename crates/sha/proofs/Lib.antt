@@ -1,5 +1,5 @@
 pub mod Rule
-pub mod Added
+pub mod Chunks
 pub mod Absorbed
 pub mod Digests
 pub mod Feeding

@@ -1,6 +1,7 @@
 -- SHA-256, as FIPS 180-4 gives it. A word is a number below 2 ^ 32, a message a list of bytes.
 use Rattle.std.specs.Prelude.{ℕ, zero, suc, ◌+◌, ◌-◌, ◌*◌, ◌/◌, ◌%◌, ◌^◌, List, [], ◌∷◌, ◌++◌, map, length, take, drop, replicate, bit_and, bit_or, bit_xor, slice_index, slice_index_or}
 use Rattle.std.specs.List.{range_with_len, flat_map}
+use Rattle.std.specs.Simd.Lanes.{zip2}
 use Rattle.sha.specs.Roots.{prime_of, fraction}
 
 -- addition of words
@@ -86,9 +87,7 @@ rounds_of w (suc n) s = round_of (round_word n) (slice_index w n) (rounds_of w n
 
 -- two hash values added, word by word
 unfoldable pub added : List ℕ → List ℕ → List ℕ
-added [] ys = []
-added (x ∷ xs) [] = []
-added (x ∷ xs) (y ∷ ys) = plus x y ∷ added xs ys
+added = zip2 plus
 
 -- H(i) from H(i - 1) and block i
 unfoldable pub compressed : List ℕ → List ℕ → List ℕ

@@ -80,7 +80,7 @@ ran_then {s = s} {ws = ws} {vs = vs} (through e a o) (through f b q) = through f
 ran_then {ws = ws} (through e a o) (failed m h f c q) = failed (length ws + m) h f (cut_after _ _ _ _ _ m h a c) q
 ran_then (failed m h e c o) b = absurd (clash tt h (sym e))
 
-done_slots : {s t : Slots} {on : Bool} {ws : List Write} → Ran s ws (Ok tt) t on → t ≡ stood s ws
+pub done_slots : {s t : Slots} {on : Bool} {ws : List Write} → Ran s ws (Ok tt) t on → t ≡ stood s ws
 done_slots (through e a o) = a
 done_slots (failed m h e c o) = absurd (clash tt h (sym e))
 

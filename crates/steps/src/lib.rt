@@ -26,7 +26,7 @@ pub fn read_at<D: ReadSlots>(device: &D, slot: u16, bytes: &mut [u8; 64]) -> Res
     ensures { Fetched (D.slots device.now) (D.powered device.now) slot result bytes.new }
 {
     device
-        .read(slot as usize, bytes)
+        .read(usize::from(slot), bytes)
         .map_err(|fault| halted(fault, slot, Step::Read))?;
     Ok(())
 }
@@ -41,7 +41,7 @@ pub fn write_at<D: WriteSlots>(
     ensures { Stepped (D.ReadSlots.slots device.old) (D.ReadSlots.powered device.old) (write_of slot bytes.now step) result (D.ReadSlots.slots device.new) (D.ReadSlots.powered device.new) }
 {
     device
-        .write(slot as usize, bytes)
+        .write(usize::from(slot), bytes)
         .map_err(|fault| halted(fault, slot, step))?;
     Ok(())
 }

@@ -74,9 +74,9 @@ pub(crate) const SECOND_DAY: [Event; 8] = [
 
 /// The state of manager k's session.
 pub(crate) fn state_of(k: usize) -> SessionState {
-    let (name, lifetime) = MANAGERS[k % 7];
+    let (name, lifetime) = MANAGERS[k % MANAGERS.len()];
     SessionState {
         lifetime,
-        ..samples::session(name.as_bytes(), (k % 7) as u8)
+        ..samples::session(name.as_bytes(), (k % MANAGERS.len()) as u8)
     }
 }

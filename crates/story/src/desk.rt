@@ -7,22 +7,32 @@ use scratch::Scratch;
 /// The journal's slots.
 pub(crate) const SLOTS: usize = 30;
 
+/// What a manager was given.
+#[derive(Clone, Copy)]
+pub(crate) struct Given {
+    pub(crate) ticket: Bytes,
+    /// how many times the state came back
+    pub(crate) states: u32,
+}
+
 #[derive(Drop)]
 pub(crate) struct Desk<'a> {
     pub(crate) show: Show<'a>,
-    pub(crate) tickets: [Bytes; 7],
-    /// how many times the state of each manager was given
-    pub(crate) given: [u32; 7],
+    /// what each manager was given
+    pub(crate) given: [Given; MANAGERS.len()],
     pub(crate) marks: [u8; SLOTS],
     pub(crate) scratch: Scratch,
 }
 
 impl<'a> Desk<'a> {
     pub(crate) fn new(rt: &'a HostRuntime) -> Desk<'a> {
+        let nothing = Given {
+            ticket: Bytes::none(),
+            states: 0,
+        };
         Desk {
             show: Show::new(rt),
-            tickets: [Bytes::none(); 7],
-            given: [0; 7],
+            given: [nothing; MANAGERS.len()],
             marks: [0; SLOTS],
             scratch: Scratch::new(),
         }

@@ -1,20 +1,21 @@
 //! Looks at a file: its head, its chain, its free slots, and what is left in them.
 use crate::desk::{Desk, SLOTS};
+use beds::slot_at;
 use chain::{Found, Survey, count_free, next_free, read_file, read_marking};
 use device::ReadSlots;
 use fault::{Call, Halt};
 use samples::all_are;
-use serving::record_at;
+use serving::{PAIR, record_at};
 
 // Reads the file, and the record that covers a number.
 fn read<D: ReadSlots>(device: &D, number: Option<u32>) -> Result<Survey, Halt> {
-    read_file(device, 1, 1, number, &mut [0; SLOTS], &mut [0; 64])
+    read_file(device, PAIR, number, &mut [0; SLOTS], &mut [0; 64])
 }
 
 /// Shows the file on a device, with or without the records of its chain.
 pub(crate) fn show_file<D: ReadSlots>(desk: &mut Desk, device: &D, records: bool) {
     let mut marks = [0; SLOTS];
-    match read_marking(device, 1, 1, None, &mut marks, &mut [0; 64]) {
+    match read_marking(device, PAIR, None, &mut marks, &mut [0; 64]) {
         Ok(survey) => {
             let issued = survey.head.issued;
             let length = survey.length;
@@ -31,29 +32,28 @@ pub(crate) fn show_file<D: ReadSlots>(desk: &mut Desk, device: &D, records: bool
     }
 }
 
-// Prints the depth and the first number of the record in a slot, and answers the slot of the next.
-fn show_record<D: ReadSlots>(desk: &mut Desk, device: &D, slot: u16) -> u16 {
-    match record_at(device, slot) {
-        Some(fields) => {
-            print!(desk.show; " ({}, {})", fields.depth, fields.first);
-            fields.next
-        }
-        None => {
-            desk.show.print(" (no record)");
-            0
-        }
-    }
+// Prints the depth and the first number of the record in a slot, and answers the slot of the next; none where there is no record.
+fn show_record<D: ReadSlots>(desk: &mut Desk, device: &D, slot: u16) -> Option<u16> {
+    let Some(fields) = record_at(device, slot) else {
+        desk.show.print(" (no record)");
+        return None;
+    };
+    print!(desk.show; " ({}, {})", fields.depth, fields.first);
+    Some(fields.next)
 }
 
 // Prints the chain's records in its order, eight to a line.
 fn show_chain<D: ReadSlots>(desk: &mut Desk, device: &D, survey: &Survey) {
     desk.show.print("  chain:");
-    let mut next = survey.head.first;
+    let mut slot = survey.head.first;
     for k in 0..survey.length {
         if k > 0 && k % 8 == 0 {
             desk.show.print("\n        ");
         }
-        next = show_record(desk, device, next);
+        let Some(next) = show_record(desk, device, slot) else {
+            break;
+        };
+        slot = next;
     }
     desk.show.println("");
 }
@@ -61,10 +61,8 @@ fn show_chain<D: ReadSlots>(desk: &mut Desk, device: &D, survey: &Survey) {
 // Prints what the free slots hold, where one is not zero.
 fn show_left<D: ReadSlots>(desk: &mut Desk, device: &D, marks: &[u8; SLOTS]) {
     let mut all_zero = true;
-    let mut slot = [0; 64];
     for index in 1..SLOTS {
-        let read = device.read(index, &mut slot).is_ok();
-        let zero = read && all_are(&slot, 0);
+        let zero = slot_at(device, index).is_some_and(|slot| all_are(&slot, 0));
         if !zero && next_free(marks, index, SLOTS) == Some(index) {
             all_zero = false;
             print!(desk.show; "  free slot {index} still holds");
@@ -79,20 +77,17 @@ fn show_left<D: ReadSlots>(desk: &mut Desk, device: &D, marks: &[u8; SLOTS]) {
 
 /// The record that covers a number; none for a spent one.
 pub(crate) fn covering<D: ReadSlots>(desk: &mut Desk, device: &D, k: usize) -> Option<Found> {
-    match read(device, Some((k % 65536) as u32)) {
-        Ok(survey) => survey.found,
-        Err(halt) => {
-            desk.tell(Some(halt.during(Call::Reopen)));
-            None
-        }
-    }
+    let answer = read(device, Some((k % 65536) as u32));
+    desk.tell(answer.err().map(|halt| halt.during(Call::Reopen)));
+    answer.ok()?.found
 }
 
-/// The slot that the head, or the record in a slot, leads to; 0 for none.
-pub(crate) fn led_to<D: ReadSlots>(device: &D, slot: u16) -> u16 {
+/// The slot that the head, or the record in a slot, leads to, as the file names it: 0 after the last record. None where it
+/// cannot be read.
+pub(crate) fn led_to<D: ReadSlots>(device: &D, slot: u16) -> Option<u16> {
     if slot == 0 {
-        read(device, None).map_or(0, |survey| survey.head.first)
+        read(device, None).ok().map(|survey| survey.head.first)
     } else {
-        record_at(device, slot).map_or(0, |fields| fields.next)
+        record_at(device, slot).map(|fields| fields.next)
     }
 }

@@ -15,7 +15,7 @@ use generators::ChaChaGenerator;
 use image::ByteImage;
 use journal::Journal;
 use octets::same_bytes;
-use samples::{Bytes, KEY_NAME, ROOT, record_of};
+use samples::{Bytes, KEY_NAME, ROOM, ROOT, add, record_of};
 use server::{Cold, Running};
 use serving::{Held, device_of, opened, split};
 use tree::LEVELS;
@@ -66,24 +66,25 @@ fn look<'a>(desk: &mut Desk, server: Up<'a>) -> Here<'a> {
 
 // Issues a manager's ticket.
 fn issue<'a>(desk: &mut Desk, server: Up<'a>, k: usize) -> Here<'a> {
-    let state = state_of(k);
-    let record = record_of(&state);
-    let mut ticket = Bytes::none();
+    let record = record_of(&state_of(k));
+    let mut row = [0; ROOM];
     let (server, answer) = split(server.issue(
         record.part(),
-        &mut ticket.row,
+        &mut row,
         &mut desk.marks,
         &mut desk.scratch,
     ));
-    let (length, calls) = answer.unwrap_or((0, 0));
-    ticket.length = length;
-    desk.tickets[k % 7] = ticket;
-    let (name, lifetime) = MANAGERS[k % 7];
-    println!(desk.show;
-        "  ticket {k} to {name}: lifetime {lifetime} s, record {} bytes, ticket {length} bytes, generator calls {calls}",
-        record.length
-    );
-    desk.tell(answer.err());
+    match answer {
+        Ok((length, calls)) => {
+            desk.given[k % MANAGERS.len()].ticket = Bytes { row, length };
+            let (name, lifetime) = MANAGERS[k % MANAGERS.len()];
+            println!(desk.show;
+                "  ticket {k} to {name}: lifetime {lifetime} s, record {} bytes, ticket {length} bytes, generator calls {calls}",
+                record.length
+            );
+        }
+        Err(fault) => desk.tell(Some(fault)),
+    }
     server
 }
 
@@ -93,7 +94,7 @@ fn welcome(desk: &mut Desk, k: usize, state: &[u8], calls: u32) {
         println!(desk.show; "  ticket {k}: what came out is no state");
         return;
     };
-    desk.given[k % 7] = desk.given[k % 7].saturating_add(1);
+    add(&mut desk.given[k % MANAGERS.len()].states, 1);
     print!(desk.show; "  ticket {k} is redeemed: the state of ");
     for b in opened.name {
         if b != 0 {
@@ -110,18 +111,15 @@ fn welcome(desk: &mut Desk, k: usize, state: &[u8], calls: u32) {
 
 // Redeems a ticket.
 fn redeem<'a>(desk: &mut Desk, server: Up<'a>, k: usize, ticket: &Bytes) -> Here<'a> {
-    let mut state = Bytes::none();
+    let mut row = [0; ROOM];
     let (server, answer) = split(server.redeem(
         ticket.part(),
-        &mut state.row,
+        &mut row,
         &mut desk.marks,
         &mut desk.scratch,
     ));
     match answer {
-        Ok((length, calls)) => {
-            state.length = length;
-            welcome(desk, k, state.part(), calls);
-        }
+        Ok((length, calls)) => welcome(desk, k, Bytes { row, length }.part(), calls),
         Err(fault) => desk.tell(Some(fault)),
     }
     server
@@ -129,15 +127,15 @@ fn redeem<'a>(desk: &mut Desk, server: Up<'a>, k: usize, ticket: &Bytes) -> Here
 
 // A manager comes with a ticket.
 fn come<'a>(desk: &mut Desk, server: Up<'a>, k: usize) -> Here<'a> {
-    println!(desk.show; "  {} sends ticket {k}", MANAGERS[k % 7].0);
-    let ticket = desk.tickets[k % 7];
+    println!(desk.show; "  {} sends ticket {k}", MANAGERS[k % MANAGERS.len()].0);
+    let ticket = desk.given[k % MANAGERS.len()].ticket;
     redeem(desk, server, k, &ticket)
 }
 
 // Somebody sends a ticket with one byte of its sealed part changed.
 fn forge<'a>(desk: &mut Desk, server: Up<'a>, k: usize) -> Here<'a> {
     println!(desk.show; "  somebody sends ticket {k} with one byte changed");
-    let mut ticket = desk.tickets[k % 7];
+    let mut ticket = desk.given[k % MANAGERS.len()].ticket;
     ticket.row[40] ^= 1;
     redeem(desk, server, k, &ticket)
 }
@@ -150,30 +148,19 @@ struct Joint {
     new: usize,
 }
 
-// The joint of the redemption of a number.
-fn joint_of(desk: &mut Desk, device: &Device, k: usize) -> Joint {
-    match covering(desk, device, k) {
-        Some(found) => {
-            let new = LEVELS.saturating_sub(found.node.depth) as usize;
-            println!(desk.show;
-                "  number {k} lies under ({}, {}) in slot {}, to which slot {} leads; new records to write: {new}",
-                found.node.depth, found.node.first, found.slot, found.before
-            );
-            Joint {
-                slot: found.before,
-                leads_to: found.slot,
-                new,
-            }
-        }
-        None => {
-            desk.show.expect(false, "a number to be redeemed is spent");
-            Joint {
-                slot: 0,
-                leads_to: 0,
-                new: 0,
-            }
-        }
-    }
+// The joint of the redemption of a number; none for a spent one.
+fn joint_of(desk: &mut Desk, device: &Device, k: usize) -> Option<Joint> {
+    let found = covering(desk, device, k)?;
+    let new = LEVELS.saturating_sub(found.node.depth) as usize;
+    println!(desk.show;
+        "  number {k} lies under ({}, {}) in slot {}, to which slot {} leads; new records to write: {new}",
+        found.node.depth, found.node.first, found.slot, found.before
+    );
+    Some(Joint {
+        slot: found.before,
+        leads_to: found.slot,
+        new,
+    })
 }
 
 // Restarts a device, shows the file before anything is swept, and says whether the join stood: whether its slot leads elsewhere
@@ -184,11 +171,14 @@ fn restart(desk: &mut Desk, device: &mut Device, joint: &Joint) -> bool {
         Err(_) => desk.show.println("  the device does not restart"),
     }
     show_file(desk, device, true);
-    let now = led_to(device, joint.slot);
-    let stood = now != joint.leads_to;
+    let Joint { slot, leads_to, .. } = *joint;
+    let Some(now) = led_to(device, slot) else {
+        desk.show.expect(false, "the slot of a join cannot be read");
+        return false;
+    };
+    let stood = now != leads_to;
     println!(desk.show;
-        "  slot {} led to slot {} and now leads to slot {now}: the join stood: {stood}",
-        joint.slot, joint.leads_to
+        "  slot {slot} led to slot {leads_to} and now leads to slot {now}: the join stood: {stood}"
     );
     stood
 }
@@ -220,7 +210,10 @@ fn cut<'a>(
     standing: usize,
 ) -> Here<'a> {
     let device = device_of(Ok(server));
-    let joint = joint_of(desk, &device, k);
+    let Some(joint) = joint_of(desk, &device, k) else {
+        desk.show.expect(false, "a number to be redeemed is spent");
+        return reopen(desk, cold_on(device));
+    };
     let done = joint
         .new
         .saturating_add((failing == Failing::Erasure) as usize);
@@ -279,8 +272,8 @@ fn second_day(desk: &mut Desk, image: &mut [u8; IMAGE]) {
 // Says for every ticket whether the file still covers its number, and how many times its state was given.
 fn sum_up(desk: &mut Desk, device: &Device) {
     desk.show.println("10. The tickets at the end");
-    for k in 0..7usize {
-        print!(desk.show; "  ticket {k}, {}: ", MANAGERS[k].0);
+    for (k, (name, _)) in MANAGERS.iter().enumerate() {
+        print!(desk.show; "  ticket {k}, {name}: ");
         match covering(desk, device, k) {
             Some(found) => print!(desk.show;
                 "unspent, under ({}, {})",
@@ -288,7 +281,7 @@ fn sum_up(desk: &mut Desk, device: &Device) {
             ),
             None => desk.show.print("spent"),
         }
-        println!(desk.show; "; states given {}", desk.given[k]);
+        println!(desk.show; "; states given {}", desk.given[k % MANAGERS.len()].states);
     }
 }
 

@@ -1,5 +1,6 @@
 //! What the four walks start from.
 use session::{SECRET_LENGTH, SessionState, Suite};
+use std::array;
 
 /// A session, with the root value, the key name and the ticket number of its walk. A row of bytes is told by the first byte and
 /// by what each adds to the one before.
@@ -70,13 +71,7 @@ pub(crate) const CASES: [Case; 4] = [
 ];
 
 fn row((first, step): (u8, u8)) -> [u8; SECRET_LENGTH] {
-    let mut bytes = [0; SECRET_LENGTH];
-    let mut next = first;
-    for byte in &mut bytes {
-        *byte = next;
-        next = next.wrapping_add(step);
-    }
-    bytes
+    array::from_fn(|k| first.wrapping_add(step.wrapping_mul(k as u8)))
 }
 
 impl Case {

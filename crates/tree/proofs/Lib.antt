@@ -11,5 +11,6 @@ pub mod Descent
 pub mod Computed
 pub mod Keys
 pub mod Shapes
+pub mod Gaps
 pub mod Sift
 pub mod Turns

@@ -1,6 +1,6 @@
 -- Walks down from a node: one turn, and the values of the siblings passed on the way.
-use Rattle.std.proofs.Common.{◌≡◌, ℕ, zero, suc, ◌+◌, ◌-◌, ◌*◌, ◌%◌, ◌^◌, ◌<◌, ◌≤◌, Bool, true, false, eqb, List, [], ◌∷◌, ◌++◌, sym, refl, ap, ◌∙◌, subst, ap₂, inl, inr, append_assoc, append-nil, arith, pow_pos}
-use Rattle.std.specs.List.{flat_map}
+use Rattle.std.proofs.Common.{◌≡◌, ℕ, zero, suc, ◌+◌, ◌-◌, ◌*◌, ◌%◌, ◌^◌, ◌<◌, ◌≤◌, Bool, true, false, eqb, List, [], ◌∷◌, ◌++◌, map, sym, refl, ap, ◌∙◌, subst, ap₂, inl, inr, arith, pow_pos}
+use Rattle.std.proofs.lemmas.List.{map-append}
 use Rattle.std.proofs.lemmas.Bool.{cases_lt}
 use Rattle.tree.specs.declared.Node.{Node}
 use Rattle.tree.specs.Nodes.{node_at, left_of, right_of, width_of, Covers, IsNode}
@@ -58,20 +58,16 @@ turned g d v x y p b l m q =
     rw (a, h, q)
 
 -- ---- the values of the siblings, by the way down
-joined_append : (f : Node → List ℕ) (xs ys : List Node) → flat_map f (xs ++ ys) ≡ flat_map f xs ++ flat_map f ys
-joined_append f [] ys = refl
-joined_append f (x ∷ xs) ys = ap (λ (l : List ℕ). f x ++ l) (joined_append f xs ys) ∙ sym (append_assoc (f x) (flat_map f xs) (flat_map f ys))
-
-joined_same : (f f' : Node → List ℕ) (xs : List Node) → ((x : Node) → In x xs → f x ≡ f' x) → flat_map f xs ≡ flat_map f' xs
-joined_same f f' [] s = refl
-joined_same f f' (x ∷ xs) s = ap₂ (λ (a b : List ℕ). a ++ b) (s x (inl refl)) (joined_same f f' xs (λ y i. s y (inr i)))
+same_values : (f f' : Node → List ℕ) (xs : List Node) → ((x : Node) → In x xs → f x ≡ f' x) → map f xs ≡ map f' xs
+same_values f f' [] s = refl
+same_values f f' (x ∷ xs) s = ap₂ (λ (a : List ℕ) (l : List (List ℕ)). a ∷ l) (s x (inl refl)) (same_values f f' xs (λ y i. s y (inr i)))
 
 -- the siblings below a child have the values that follow from x's
 below_child : (g : Expansion) (d n : ℕ) (v : List ℕ) (x c : Node) (b : Bool) → IsNode d c → Covers d c n → depth c ≡ suc (depth x) →
     ((m : ℕ) → Covers d c m → bit (d - suc (depth x)) m ≡ b) →
-    flat_map (value_from g d c (step_of g b v)) (siblings_from d c n) ≡ flat_map (value_from g d x v) (siblings_from d c n)
+    map (value_from g d c (step_of g b v)) (siblings_from d c n) ≡ map (value_from g d x v) (siblings_from d c n)
 below_child g d n v x c b i s q f =
-    joined_same (value_from g d c (step_of g b v)) (value_from g d x v) (siblings_from d c n) (λ y j.
+    same_values (value_from g d c (step_of g b v)) (value_from g d x v) (siblings_from d c n) (λ y j.
     let l = sibling_lies d n c y i.shallow s j in
     let e : node_at (suc (depth x)) (first c) ≡ c = ap (λ (z : ℕ). node_at z (first c)) (sym q) in
     subst (λ (z : Node). value_from g d z (step_of g b v) y ≡ value_from g d x v y) e (turned g d v x y (first c) b (omega (arith, l.deep)) l.shallow (f (first y) l.within)))
@@ -85,8 +81,8 @@ child_value g d v x p b l q =
 
 -- the way goes left: the right child's value comes last
 besides_left : (g : Expansion) (d h n : ℕ) (v : List ℕ) (x : Node) → depth x + suc h ≡ d → IsNode d x → (first x ≤ n) × (n < first x + 2 ^ h) →
-    besides g h n (g.left v) ≡ flat_map (value_from g d (left_of x) (g.left v)) (siblings_on (suc (depth x)) h (first x) n) →
-    besides g (suc h) n v ≡ flat_map (value_from g d x v) (siblings_on (depth x) (suc h) (first x) n)
+    besides g h n (g.left v) ≡ map (value_from g d (left_of x) (g.left v)) (siblings_on (suc (depth x)) h (first x) n) →
+    besides g (suc h) n v ≡ map (value_from g d x v) (siblings_on (depth x) (suc h) (first x) n)
 besides_left g d h n v x q i c r =
     let e = depth x in
     let p = first x in
@@ -98,19 +94,19 @@ besides_left g d h n v x q i c r =
     let f : Node → List ℕ = value_from g d x v in
     let u : Covers d (left_of x) n = (c.0, omega arith) in
     let b : bit h n ≡ false = subst (λ (z : ℕ). bit z n ≡ false) k (bit_left d n x i l u) in
-    let s : flat_map (value_from g d (left_of x) (g.left v)) (siblings_on (suc e) h p n) ≡ flat_map f (siblings_on (suc e) h p n) =
-    subst (λ (z : ℕ). flat_map (value_from g d (left_of x) (g.left v)) (siblings_on (suc e) z p n) ≡ flat_map f (siblings_on (suc e) z p n)) k
+    let s : map (value_from g d (left_of x) (g.left v)) (siblings_on (suc e) h p n) ≡ map f (siblings_on (suc e) h p n) =
+    subst (λ (z : ℕ). map (value_from g d (left_of x) (g.left v)) (siblings_on (suc e) z p n) ≡ map f (siblings_on (suc e) z p n)) k
     (below_child g d n v x (left_of x) false (left_node d x i l) u refl (λ j t. bit_left d j x i l t)) in
     let y : f (node_at (suc e) m) ≡ g.right v = child_value g d v x m true l (bit_right d m x i l (omega arith, omega arith)) in
-    let a : flat_map f (siblings_on e (suc h) p n) ≡ flat_map f (siblings_on (suc e) h p n) ++ g.right v =
-    ap (flat_map f) (sib_left e (suc e) (suc h) h p n refl refl c.1) ∙ joined_append f (siblings_on (suc e) h p n) (node_at (suc e) m ∷ []) ∙
-    ap (λ (t : List ℕ). flat_map f (siblings_on (suc e) h p n) ++ t) (append-nil (f (node_at (suc e) m)) ∙ y) in
-    ap (λ (z : Bool). flanked z (g.left v) (g.right v) (besides g h n (step_of g z v))) b ∙ ap (λ (t : List ℕ). t ++ g.right v) (r ∙ s) ∙ sym a
+    let a : map f (siblings_on e (suc h) p n) ≡ map f (siblings_on (suc e) h p n) ++ (g.right v ∷ []) =
+    ap (map f) (sib_left e (suc e) (suc h) h p n refl refl c.1) ∙ map-append f (siblings_on (suc e) h p n) (node_at (suc e) m ∷ []) ∙
+    ap (λ (t : List ℕ). map f (siblings_on (suc e) h p n) ++ (t ∷ [])) y in
+    ap (λ (z : Bool). flanked z (g.left v) (g.right v) (besides g h n (step_of g z v))) b ∙ ap (λ (t : List (List ℕ)). t ++ (g.right v ∷ [])) (r ∙ s) ∙ sym a
 
 -- the way goes right: the left child's value comes first
 besides_right : (g : Expansion) (d h n : ℕ) (v : List ℕ) (x : Node) → depth x + suc h ≡ d → IsNode d x → (o : IsNode d (right_of d x)) → (first x + 2 ^ h ≤ n) × (n < first x + 2 ^ h + 2 ^ h) →
-    besides g h n (g.right v) ≡ flat_map (value_from g d (right_of d x) (g.right v)) (siblings_on (suc (depth x)) h (right_of d x).first n) →
-    besides g (suc h) n v ≡ flat_map (value_from g d x v) (siblings_on (depth x) (suc h) (first x) n)
+    besides g h n (g.right v) ≡ map (value_from g d (right_of d x) (g.right v)) (siblings_on (suc (depth x)) h (right_of d x).first n) →
+    besides g (suc h) n v ≡ map (value_from g d x v) (siblings_on (depth x) (suc h) (first x) n)
 besides_right g d h n v x q i o c r =
     let e = depth x in
     let p = first x in
@@ -124,16 +120,16 @@ besides_right g d h n v x q i o c r =
     let fy : y.first ≡ m = ap (λ (z : ℕ). p + z) w in
     let u : Covers d y n = (omega arith, omega arith) in
     let b : bit h n ≡ true = subst (λ (z : ℕ). bit z n ≡ true) k (bit_right d n x i l u) in
-    let s : flat_map (value_from g d y (g.right v)) (siblings_on (suc e) h y.first n) ≡ flat_map f (siblings_on (suc e) h y.first n) =
-    subst (λ (z : ℕ). flat_map (value_from g d y (g.right v)) (siblings_on (suc e) z y.first n) ≡ flat_map f (siblings_on (suc e) z y.first n)) k
+    let s : map (value_from g d y (g.right v)) (siblings_on (suc e) h y.first n) ≡ map f (siblings_on (suc e) h y.first n) =
+    subst (λ (z : ℕ). map (value_from g d y (g.right v)) (siblings_on (suc e) z y.first n) ≡ map f (siblings_on (suc e) z y.first n)) k
     (below_child g d n v x y true o u refl (λ j t. bit_right d j x i l t)) in
     let t : f (node_at (suc e) p) ≡ g.left v = child_value g d v x p false l (bit_left d p x i l (omega arith, omega arith)) in
-    let a : flat_map f (siblings_on e (suc h) p n) ≡ g.left v ++ flat_map f (siblings_on (suc e) h m n) =
-    ap (flat_map f) (sib_right e (suc e) (suc h) h p n refl refl c.0) ∙ ap (λ (j : List ℕ). j ++ flat_map f (siblings_on (suc e) h m n)) t in
-    let j : flat_map f (siblings_on (suc e) h y.first n) ≡ flat_map f (siblings_on (suc e) h m n) = ap (λ (z : ℕ). flat_map f (siblings_on (suc e) h z n)) fy in
-    ap (λ (z : Bool). flanked z (g.left v) (g.right v) (besides g h n (step_of g z v))) b ∙ ap (λ (z : List ℕ). g.left v ++ z) (r ∙ s ∙ j) ∙ sym a
+    let a : map f (siblings_on e (suc h) p n) ≡ g.left v ∷ map f (siblings_on (suc e) h m n) =
+    ap (map f) (sib_right e (suc e) (suc h) h p n refl refl c.0) ∙ ap (λ (j : List ℕ). j ∷ map f (siblings_on (suc e) h m n)) t in
+    let j : map f (siblings_on (suc e) h y.first n) ≡ map f (siblings_on (suc e) h m n) = ap (λ (z : ℕ). map f (siblings_on (suc e) h z n)) fy in
+    ap (λ (z : Bool). flanked z (g.left v) (g.right v) (besides g h n (step_of g z v))) b ∙ ap (λ (z : List (List ℕ)). g.left v ∷ z) (r ∙ s ∙ j) ∙ sym a
 
-pub besides_are : (g : Expansion) (d h n : ℕ) (v : List ℕ) (x : Node) → depth x + h ≡ d → IsNode d x → Covers d x n → besides g h n v ≡ flat_map (value_from g d x v) (siblings_on (depth x) h (first x) n)
+pub besides_are : (g : Expansion) (d h n : ℕ) (v : List ℕ) (x : Node) → depth x + h ≡ d → IsNode d x → Covers d x n → besides g h n v ≡ map (value_from g d x v) (siblings_on (depth x) h (first x) n)
 besides_are g d zero n v x q i c = refl
 besides_are g d (suc h) n v x q i c =
     let e = depth x in

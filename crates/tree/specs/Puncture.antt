@@ -1,7 +1,7 @@
 -- What spending one more number does to the cover: its node gives way to the siblings on the way down to the number.
-use Rattle.std.specs.Prelude.{◌≡◌, ℕ, zero, suc, ◌+◌, ◌-◌, ◌^◌, ◌≤◌, Bool, true, false, ◌↔◌, List, [], ◌∷◌, ◌++◌, length, replicate, Some, None, Option, nat_lt}
+use Rattle.std.specs.Prelude.{◌≡◌, ℕ, zero, suc, ◌+◌, ◌-◌, ◌^◌, ◌≤◌, Bool, true, false, ◌↔◌, List, [], ◌∷◌, ◌++◌, length, Some, None, Option, nat_lt}
 use Rattle.tree.specs.declared.Node.{Node}
-use Rattle.tree.specs.Nodes.{most_levels, node_at, root_node, IsNode, Covers, Child, Above}
+use Rattle.tree.specs.Nodes.{node_at, IsNode, Covers, Child, Above}
 use Rattle.tree.specs.Cover.{In, Ordered, cover}
 
 -- where the child on the way begins: at p on the left, at the middle m on the right
@@ -23,10 +23,10 @@ siblings_on e (suc h) p n = flank (nat_lt n (p + 2 ^ h)) (suc e) p (p + 2 ^ h) (
 abbrev pub siblings_from : ℕ → Node → ℕ → List Node
 siblings_from d x n = siblings_on x.depth (d - x.depth) x.first n
 
--- what listing them answers, and what a row of as many nodes as the most levels holds then
-abbrev pub Listed : ℕ → Node → ℕ → Option ℕ → List Node → Type 0
-Listed d x n (Some k) row = Above d x n × (k ≡ d - x.depth) × (row ≡ siblings_from d x n ++ replicate (most_levels - k) root_node)
-Listed d x n None row = (Above d x n → ⊥) × (row ≡ replicate most_levels root_node)
+-- what listing them answers: none where there is no way from x down to n
+abbrev pub Listed : ℕ → Node → ℕ → Option (List Node) → Type 0
+Listed d x n (Some ys) = Above d x n × (length ys ≡ d - x.depth) × (ys ≡ siblings_from d x n)
+Listed d x n None = Above d x n → ⊥
 
 -- ---- what is proved of them
 -- y does not cover n, and is a child of a node that covers n and is not above x

@@ -1,6 +1,5 @@
 -- The values at the nodes, from a value at the root, by any two functions from a parent's value to its children's.
 use Rattle.std.specs.Prelude.{◌≡◌, ℕ, zero, suc, ◌+◌, ◌-◌, ◌/◌, ◌%◌, ◌^◌, ◌<◌, ◌≤◌, Bool, true, false, ◌↔◌, List, [], ◌∷◌, ◌++◌, map, length, ◌==◌}
-use Rattle.std.specs.List.{flat_map}
 use Rattle.tree.specs.declared.Node.{Node}
 use Rattle.tree.specs.Nodes.{node_at, root_node, left_of, right_of, IsNode, Covers}
 use Rattle.tree.specs.Cover.{In, Free, cover}
@@ -52,16 +51,16 @@ pub record Counted (d : ℕ) (x : Node) (n : ℕ) (calls : ℕ) : Type 0 where
   pub turns : calls ≡ length (way_from d x n)
   pub levels : length (way_from d x n) ≡ d - x.depth
 
--- the values of the siblings on the way from x to n, one after the other in the siblings' order
-abbrev pub sibling_values : Expansion → ℕ → Node → List ℕ → ℕ → List ℕ
-sibling_values g d x v n = flat_map (value_from g d x v) (siblings_from d x n)
+-- the values of the siblings on the way from x to n, in the siblings' order
+abbrev pub sibling_values : Expansion → ℕ → Node → List ℕ → ℕ → List (List ℕ)
+sibling_values g d x v n = map (value_from g d x v) (siblings_from d x n)
 
 -- the same by the turns, on the way down k levels to n from a node of value v: a sibling on the left comes before those further down
-abbrev pub flanked : Bool → List ℕ → List ℕ → List ℕ → List ℕ
-flanked false l r vs = vs ++ r
-flanked true l r vs = l ++ vs
+abbrev pub flanked : Bool → List ℕ → List ℕ → List (List ℕ) → List (List ℕ)
+flanked false l r vs = vs ++ (r ∷ [])
+flanked true l r vs = l ∷ vs
 
-abbrev pub besides : Expansion → ℕ → ℕ → List ℕ → List ℕ
+abbrev pub besides : Expansion → ℕ → ℕ → List ℕ → List (List ℕ)
 besides g zero n v = []
 besides g (suc k) n v = flanked (bit k n) (g.left v) (g.right v) (besides g k n (step_of g (bit k n) v))
 

@@ -1,13 +1,15 @@
 //! The key tree: its nodes, the cover of the spent numbers, and the values.
 #![tactic(auto)]
 
-ghost use Rattle.std.specs.Prelude.{◌≡◌, ℕ, ◌+◌, ◌^◌, ◌<◌, ◌≤◌, T, length, Some, None};
+ghost use Rattle.std.specs.Prelude.{◌≡◌, ℕ, ◌+◌, ◌-◌, ◌^◌, ◌<◌, ◌≤◌, T, List, length, take, Some, None};
 ghost use Rattle.tree.specs.declared.Node.{Node};
-ghost use Rattle.tree.specs.Nodes.{tree_levels, most_levels, width_of, IsNode, Covers, HasChildren, left_of, right_of, Twins};
+ghost use Rattle.tree.specs.Nodes.{tree_levels, most_levels, width_of, IsNode, Covers, Above, HasChildren, left_of, right_of, Twins};
 ghost use Rattle.tree.specs.Cover.{Characterised, InOrder, Exactly, AtMostOne, Exhausted, Least, SameSet, Few};
 ghost use Rattle.tree.specs.Puncture.{siblings_on, siblings_from, Listed, SiblingsAre, Punctured, PuncturedAt};
 ghost use Rattle.tree.specs.Values.{ValuesAre, Composed, KeyFrom, Agreed, PuncturedValues, KeysOf};
 ghost use Rattle.tree.specs.Examples.{Examples};
+
+use std::marker::Model;
 
 /// The levels below the root of the trees in use.
 pub const LEVELS: u8 = 16;
@@ -19,7 +21,7 @@ pub const MOST_LEVELS: u8 = 24;
 pub const ROW: usize = MOST_LEVELS as usize;
 
 /// A node: how deep below the root, and the first number that it covers.
-#[derive(Clone, Copy)]
+#[derive(Clone, Copy, PartialEq, Eq)]
 pub struct Node {
     pub depth: u8,
     pub first: u32,
@@ -27,18 +29,19 @@ pub struct Node {
 
 /// The sizes in use are the definitions': the trees that servers keep have no more levels than any tree may have, and a row
 /// has a place for each level of any tree, so that the siblings on every way down fit.
-pub fn sizes_stand() -> u8
+#[tactic(auto, using(crate::proofs::Flanks::length_siblings))]
+pub fn sizes_stand()
     ensures levels { LEVELS ≡ tree_levels }
     ensures most { MOST_LEVELS ≡ most_levels }
     ensures within { LEVELS ≤ MOST_LEVELS }
     ensures row { (d n : ℕ) (x : Node) → d ≤ MOST_LEVELS → length (siblings_from d x n) ≤ ROW }
-{
-    0
-}
+{}
 
-// Each method takes the number of levels of the tree that the node is to stand in.
+// Each method takes the number of levels of the tree that the node is to stand in. It stays a plain number: a type for
+// at most 24 levels would have callers show that bound where now any number will do.
 impl Node {
     /// How many numbers the node covers; 0 where the tree has no such depth.
+    // 0 stays, no `Option`: it is the count of the numbers covered there, and callers add it to a first number as it is.
     pub fn width(&self, height: u8) -> u32
         ensures within { height ≤ most_levels → self.now.depth ≤ height → result ≡ width_of height self.now.depth }
         ensures without { (height ≤ most_levels → self.now.depth ≤ height → ⊥) → result ≡ 0 }
@@ -50,6 +53,7 @@ impl Node {
     }
 
     /// Whether this is a node of the tree.
+    #[tactic(auto, using(crate::proofs::Shapes::node_from, crate::proofs::Shapes::node_to, crate::proofs::Shapes::shifted))]
     pub fn is_node(&self, height: u8) -> bool
         ensures only { T result → (height ≤ most_levels) × IsNode height self.now }
         ensures all { height ≤ most_levels → IsNode height self.now → T result }
@@ -68,6 +72,16 @@ impl Node {
         self.is_node(height) && self.first <= n && n - self.first < self.width(height)
     }
 
+    /// How many levels the way from this node down to `n` has; none where this is no node of the tree or does not cover `n`.
+    pub fn levels_to(&self, height: u8, n: u32) -> Option<u8>
+        ensures { elim result [ Some k ↦ Above height self.now n × (k ≡ height - self.now.depth) | None ↦ (Above height self.now n → ⊥) ] }
+    {
+        if !self.covers(height, n) {
+            return None;
+        }
+        Some(height - self.depth)
+    }
+
     /// The left child, where this is a node of the tree and no leaf.
     pub fn left(&self, height: u8) -> Option<Node>
         ensures { elim result [ Some x ↦ HasChildren height self.now × (x ≡ left_of self.now) | None ↦ (HasChildren height self.now → ⊥) ] }
@@ -77,18 +91,19 @@ impl Node {
         }
         Some(Node {
             depth: self.depth + 1,
-            first: self.first,
+            ..*self
         })
     }
 
     /// The right child, where this is a node of the tree and no leaf.
+    #[tactic(auto, using(crate::proofs::Shapes::halved))]
     pub fn right(&self, height: u8) -> Option<Node>
         ensures { elim result [ Some x ↦ HasChildren height self.now × (x ≡ right_of height self.now) | None ↦ (HasChildren height self.now → ⊥) ] }
     {
         let left = self.left(height)?;
         Some(Node {
-            depth: left.depth,
             first: self.first + self.width(height) / 2,
+            ..left
         })
     }
 
@@ -97,58 +112,71 @@ impl Node {
         ensures only { T result → (height ≤ most_levels) × Twins height self.now next.now }
         ensures all { height ≤ most_levels → Twins height self.now next.now → T result }
     {
-        if self.depth == 0 || self.depth != next.depth || !self.is_node(height) {
+        if self.depth == 0 || self.depth != next.depth {
             return false;
         }
-        let width = self.width(height);
-        self.first % (2 * width) == 0 && self.first + width == next.first
+        let parent = Node {
+            depth: self.depth - 1,
+            ..*self
+        };
+        parent.left(height) == Some(*self) && parent.right(height) == Some(*next)
     }
 
-    /// Lists the siblings of the nodes on the way from this node down to `n`, in increasing order, and answers how many
-    /// there are: one for each level. The rest of the row holds the root; so does all of it where there is no such way.
-    pub fn siblings(&self, height: u8, n: u32, row: &mut [Node; ROW]) -> Option<usize>
-        ensures { Listed height self.now n result row.new }
+    /// Lists the siblings of the nodes on the way from this node down to `n`, one for each level; none where there is no
+    /// such way.
+    // Those on the left of the way go into the row from the front, and those on its right from the back of the part that is
+    // still to fill, where `h` is how many are to come after this one.
+    pub fn siblings(&self, height: u8, n: u32) -> Option<SiblingList>
+        ensures { Listed height self.now n result }
     {
-        *row = [Node { depth: 0, first: 0 }; ROW];
-        if !self.covers(height, n) {
-            return None;
+        let count = usize::from(self.levels_to(height, n)?);
+        let mut row = [Node { depth: 0, first: 0 }; ROW];
+        let mut left = *self;
+        let mut lo = 0;
+        for h in (0..count).rev() {
+            left.depth += 1;
+            let right = Node {
+                first: left.first + (1 << h),
+                ..left
+            };
+            if n < right.first {
+                row[lo + h] = right;
+            } else {
+                row[lo] = left;
+                lo += 1;
+                left = right;
+            }
         }
-        let count = usize::from(height - self.depth);
-        list_siblings(&mut row[0..count], self.depth, self.first, n);
-        Some(count)
+        Some(SiblingList { row, count })
     }
 }
 
-// Fills the row with the siblings on the way from (depth, first) down to `n`, one for each level: those on the left of
-// the way from the front, those on its right from the back.
-fn list_siblings(row: &mut [Node], depth: u8, first: u32, n: u32)
-    requires levels { depth + length row.old ≤ most_levels }
-    requires numbers { first + 2 ^ length row.old ≤ 2 ^ most_levels }
-    ensures { row.new ≡ siblings_on depth (length row.old) first n }
-{
-    let mut e = depth;
-    let mut p = first;
-    let mut lo = 0;
-    let mut hi = row.len();
-    while lo < hi {
-        let half = 1u32 << (hi - lo - 1);
-        e += 1;
-        if n < p + half {
-            hi -= 1;
-            row[hi] = Node {
-                depth: e,
-                first: p + half,
-            };
-        } else {
-            row[lo] = Node { depth: e, first: p };
-            lo += 1;
-            p += half;
-        }
+/// The siblings on a way down, in increasing order.
+#[derive(Drop)]
+pub struct SiblingList {
+    row: [Node; ROW],
+    count: usize,
+}
+
+impl Model for SiblingList {
+    ghost Value = { List Node };
+
+    ghost view = { λ s. take s.count s.row };
+
+    ghost invariant = { λ s. s.count ≤ most_levels };
+}
+
+impl SiblingList {
+    /// The siblings.
+    pub fn as_slice(&self) -> &[Node]
+        ensures { result.now ≡ self.now }
+    {
+        &self.row[..self.count]
     }
 }
 
 /// The cover: its nodes, their order, what they cover, and that no fewer would do.
-pub fn cover_stands() -> u8
+pub fn cover_stands()
     ensures characterised { Characterised }
     ensures order { InOrder }
     ensures exactly { Exactly }
@@ -157,34 +185,26 @@ pub fn cover_stands() -> u8
     ensures least { Least }
     ensures set { SameSet }
     ensures few { Few }
-{
-    0
-}
+{}
 
 /// What spending one more number does to the cover.
-pub fn puncture_stands() -> u8
+pub fn puncture_stands()
     ensures siblings { SiblingsAre }
     ensures replaced { Punctured }
     ensures cut { PuncturedAt }
     ensures values { PuncturedValues }
-{
-    0
-}
+{}
 
 /// The values at the nodes, and which keys follow from the cover with its values.
-pub fn values_stand() -> u8
+pub fn values_stand()
     ensures law { ValuesAre }
     ensures composed { Composed }
     ensures key { KeyFrom }
     ensures agreed { Agreed }
     ensures keys { KeysOf }
-{
-    0
-}
+{}
 
 /// Widths and covers computed by the definitions.
-pub fn examples_stand() -> u8
+pub fn examples_stand()
     ensures { Examples }
-{
-    0
-}
+{}

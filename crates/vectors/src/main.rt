@@ -50,10 +50,10 @@ fn macs(show: &mut Show) {
     for (name, key, message, want) in MACS {
         let mut pad = [0; 64];
         let mut out = [0; 32];
-        let half = message.len() / 2;
+        let (first, second) = message.split_at(message.len() / 2);
         let mut hmac = Hmac::new(key, &mut pad);
-        hmac.update(&message[..half]);
-        hmac.update(&message[half..]);
+        hmac.update(first);
+        hmac.update(second);
         hmac.finish(&mut out);
         say(show, name, &out[..want.len().min(32)], want);
     }

@@ -1,12 +1,11 @@
-use Rattle.std.proofs.Common.{◌≡◌, ℕ, suc, ◌+◌, ◌^◌, ◌<◌, ◌≤◌, true, leb, [], length, get_or, None, Err, sym, ap, ◌∙◌, subst, arith}
+use Rattle.std.proofs.Common.{◌≡◌, ℕ, suc, ◌^◌, ◌<◌, ◌≤◌, true, leb, length, None, Err, sym, ap, ◌∙◌, subst, arith}
 use Rattle.std.proofs.lemmas.Result.{err_from_is_err_and}
 use Rattle.std.proofs.lemmas.Bool.{and_parts, leb-true}
-use Rattle.tree.specs.Nodes.{node_at, IsNode}
+use Rattle.tree.specs.Nodes.{node_at}
 use Rattle.chain.specs.Reading.{walk, may_follow}
 use Rattle.chain.specs.Listing.{tally_of, none_yet, row_of}
-use Rattle.chain.proofs.Order.{end_within, end_after, tested_node}
-use Rattle.chain.proofs.Walks.{laid}
-use Rattle.chain.proofs.Going.{ended, ended_row, far, spoilt, misplaced, onward, renamed, record_bad, record_good, no_chain}
+use Rattle.chain.proofs.Order.{end_within, end_after}
+use Rattle.chain.proofs.Going.{ended, ended_row, far, spoilt, misplaced, onward, renamed, record_bad, good, no_chain}
 use Rattle.chain.proofs.walk_along.Goals as goal
 
 pub returns-then-next-count : goal.returns-then-next-count
@@ -35,64 +34,47 @@ returns-in_err-fields g c =
 
 pub may_follow-requires : goal.may_follow-requires
 may_follow-requires g c =
-    let s = g.D.ReadSlots.slots c.args.device.now in
-    let i = c.loop-next.next in
-    let f = c.in_ok-fields.fields in
-    let here : i < length s = subst (λ (k : ℕ). i < k) c.count-count.ensures c.if-next-count.false in
-    let ok = record_good 16 s (g.D.ReadSlots.powered c.args.device.now) i f c.requires here c.in_ok-fields.ensures in
-    (c.loop-next.invariant.0.preceding, tested_node 16 f.depth f.first (laid 16 (get_or s i []) f ok).node)
+    let r = good 16 _ _ _ _ _ c.count-count.ensures c.if-next-count.false c.requires c.in_ok-fields.ensures in
+    (c.loop-next.invariant.0.preceding, r.node)
 
 pub returns-then-not-may_follow : goal.returns-then-not-may_follow
 returns-then-not-may_follow g c =
-    let s = g.D.ReadSlots.slots c.args.device.now in
-    let w = walk 16 (suc (2 ^ 16)) s 0 None 0 c.args.head.now.first in
+    let w = walk 16 (suc (2 ^ 16)) (g.D.ReadSlots.slots c.args.device.now) 0 None 0 c.args.head.now.first in
     let t = none_yet c.args.head.now.issued in
-    let i = c.loop-next.next in
-    let f = c.in_ok-fields.fields in
-    let here : i < length s = subst (λ (k : ℕ). i < k) c.count-count.ensures c.if-next-count.false in
-    let ok = record_good 16 s (g.D.ReadSlots.powered c.args.device.now) i f c.requires here c.in_ok-fields.ensures in
-    let e = misplaced c.loop-next.invariant.0 f c.loop-next-test.true here ok (sym c.may_follow.ensures ∙ c.if-not-may_follow.true) in
-    let r = c.bad_link-then-not-may_follow.result in
-    let is : Err r ≡ tally_of 16 c.args.wanted t 0 w = ap Err c.bad_link-then-not-may_follow.ensures ∙ sym e in
-    record { is = is; marks = λ xs q. no_chain 16 c.args.wanted t 0 w r xs _ _ is q }
+    let r = good 16 _ _ _ _ _ c.count-count.ensures c.if-next-count.false c.requires c.in_ok-fields.ensures in
+    let e = misplaced c.loop-next.invariant.0 c.in_ok-fields.fields c.loop-next-test.true r.here r.is (sym c.may_follow.ensures ∙ c.if-not-may_follow.true) in
+    let h = c.bad_link-then-not-may_follow.result in
+    let is : Err h ≡ tally_of 16 c.args.wanted t 0 w = ap Err c.bad_link-then-not-may_follow.ensures ∙ sym e in
+    record { is = is; marks = λ xs q. no_chain 16 c.args.wanted t 0 w h xs _ _ is q }
 
-pub with-more-requires : goal.with-more-requires
-with-more-requires g c =
-    let s = g.D.ReadSlots.slots c.args.device.now in
-    let i = c.loop-next.next in
+pub with-tally-requires : goal.with-tally-requires
+with-tally-requires g c =
     let f = c.in_ok-fields.fields in
-    let here : i < length s = subst (λ (k : ℕ). i < k) c.count-count.ensures c.if-next-count.false in
-    let ok = record_good 16 s (g.D.ReadSlots.powered c.args.device.now) i f c.requires here c.in_ok-fields.ensures in
-    let node : IsNode 16 (node_at f.depth f.first) = tested_node 16 f.depth f.first (laid 16 (get_or s i []) f ok).node in
+    let r = good 16 _ _ _ _ _ c.count-count.ensures c.if-next-count.false c.requires c.in_ok-fields.ensures in
     let start : c.loop-next.from ≤ f.first = leb-true _ _ (and_parts (leb c.loop-next.from f.first) _ (sym c.may_follow.ensures ∙ c.if-not-may_follow.false)).0 in
-    (node, omega (arith, c.loop-next.invariant.0.few, node.inside))
+    (r.node, omega (arith, c.loop-next.invariant.0.few, r.node.inside))
+
+pub end_of-from-requires : goal.end_of-from-requires
+end_of-from-requires g c =
+    let r = good 16 _ _ _ _ _ c.count-count.ensures c.if-next-count.false c.requires c.in_ok-fields.ensures in
+    r.node
 
 pub loop-next-smaller : goal.loop-next-smaller
 loop-next-smaller g c =
-    let s = g.D.ReadSlots.slots c.args.device.now in
-    let i = c.loop-next.next in
     let f = c.in_ok-fields.fields in
-    let here : i < length s = subst (λ (k : ℕ). i < k) c.count-count.ensures c.if-next-count.false in
-    let ok = record_good 16 s (g.D.ReadSlots.powered c.args.device.now) i f c.requires here c.in_ok-fields.ensures in
-    let node : IsNode 16 (node_at f.depth f.first) = tested_node 16 f.depth f.first (laid 16 (get_or s i []) f ok).node in
+    let r = good 16 _ _ _ _ _ c.count-count.ensures c.if-next-count.false c.requires c.in_ok-fields.ensures in
     let start : c.loop-next.from ≤ f.first = leb-true _ _ (and_parts (leb c.loop-next.from f.first) _ (sym c.may_follow.ensures ∙ c.if-not-may_follow.false)).0 in
-    let width = c.width.ensures.within (omega arith) node.shallow in
-    let a = end_within 16 (node_at f.depth f.first) node in
+    let a = end_within 16 (node_at f.depth f.first) r.node in
     let b = end_after 16 (node_at f.depth f.first) in
-    omega (arith, a, b, width, start)
+    omega (arith, a, b, start, c.end_of-from.ensures)
 
 pub loop-next-preserved : goal.loop-next-preserved
 loop-next-preserved g c =
-    let s = g.D.ReadSlots.slots c.args.device.now in
-    let i = c.loop-next.next in
     let f = c.in_ok-fields.fields in
-    let here : i < length s = subst (λ (k : ℕ). i < k) c.count-count.ensures c.if-next-count.false in
-    let ok = record_good 16 s (g.D.ReadSlots.powered c.args.device.now) i f c.requires here c.in_ok-fields.ensures in
-    let node : IsNode 16 (node_at f.depth f.first) = tested_node 16 f.depth f.first (laid 16 (get_or s i []) f ok).node in
+    let r = good 16 _ _ _ _ _ c.count-count.ensures c.if-next-count.false c.requires c.in_ok-fields.ensures in
     let may : may_follow 16 c.loop-next.from c.loop-next.before (node_at f.depth f.first) ≡ true = sym c.may_follow.ensures ∙ c.if-not-may_follow.false in (
-      renamed (f.first + c.width.result) c.with-more.result c.mark.new.row
-          (ap (λ (k : ℕ). f.first + k) (c.width.ensures.within (omega arith) node.shallow)) c.with-more.ensures c.mark.ensures.is
-          (onward c.loop-next.invariant.0 f c.loop-next-test.true here ok may),
+      renamed c.end_of-from.result c.with-tally.result c.mark.new.row c.end_of-from.ensures c.with-tally.ensures c.mark.ensures.is
+          (onward c.loop-next.invariant.0 f c.loop-next-test.true r.here r.is may),
       c.read_record.array_long,
     )
 

@@ -1,16 +1,18 @@
-use Rattle.std.proofs.Common.{◌≡◌, ◌+◌, ◌-◌, ◌*◌, ◌≤◌, ◌++◌, length, drop}
+use Rattle.std.proofs.Common.{◌≡◌, ◌+◌, ◌≤◌, ◌++◌, length, drop}
+use Rattle.tree.specs.Nodes.{most_levels}
 use Rattle.tree.specs.Values.{way, follow, besides}
-use Rattle.generator.proofs.Rows.{laid}
+use Rattle.tree.proofs.Gaps.{filled_in}
 use Rattle.generator.proofs.keep_siblings.Given as goal
 
--- the calls made and the turns left are the turns of the way; what is left of it leads to its end; and what is still to
--- lay down fills the gap in the row
-abbrev pub invariant-loop-lo : goal.invariant-loop-lo
-invariant-loop-lo g l =
+-- a call for each turn made; what is left of the way leads from the value reached to its end; and the values still to come
+-- fill the gap in the row
+abbrev pub invariant-loop-h : goal.invariant-loop-h
+invariant-loop-h g l =
     let x = g.G.Generator.expansion l.g in
-    (l.lo ≤ l.hi) × (l.hi ≤ 24) × (length l.row ≡ 768) × (l.calls + length (way (l.hi - l.lo) 0 l.n) ≡ length (way l.levels 0 l.n)) ×
-    (follow x l.value (way (l.hi - l.lo) 0 l.n) ≡ follow x l.initial.value (way l.levels 0 l.n)) ×
-    (laid x l.row l.value l.n l.lo l.hi ≡ besides x l.levels l.n l.initial.value ++ drop (32 * l.levels) l.initial.row)
-
-abbrev pub decreases-loop-lo : goal.decreases-loop-lo
-decreases-loop-lo g l = l.hi - l.lo
+    record {
+      counted : l.calls + l.h ≡ l.levels;
+      left : follow x l.values.value (way l.h 0 l.n) ≡ follow x l.fn.values.value (way l.levels 0 l.n);
+      long : length l.row ≡ most_levels;
+      room : l.lo + l.h ≤ l.levels;
+      laid : filled_in l.row (besides x l.h l.n l.values.value) l.lo l.h ≡ besides x l.levels l.n l.fn.values.value ++ drop l.levels l.fn.row;
+    }

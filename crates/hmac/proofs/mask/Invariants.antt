@@ -1,9 +1,7 @@
-use Rattle.std.proofs.Common.{◌≡◌, length, take, drop}
+use Rattle.std.proofs.Common.{◌≡◌, ◌++◌, take, drop}
 use Rattle.hmac.specs.Mac.{masked}
 use Rattle.hmac.proofs.mask.Given as goal
 
-abbrev pub invariant-loop-i : goal.invariant-loop-i
-invariant-loop-i l =
-    (take l.i l.pad ≡ masked l.b (take l.i l.initial.pad))
-    × (drop l.i l.pad ≡ drop l.i l.initial.pad)
-    × (length l.pad ≡ 64)
+-- the bytes so far are masked, and the others as they were
+abbrev pub invariant-loop-x : goal.invariant-loop-x
+invariant-loop-x l = l.pad ≡ masked l.b (take l.x-index l.initial.pad) ++ drop l.x-index l.initial.pad

@@ -1,6 +1,6 @@
 use Rattle.std.proofs.lemmas.Result.{err_from_is_err_and}
 use Rattle.rules.specs.Kits.{kit_of}
-use Rattle.issuing.proofs.Issued.{stopped, entry_err, read_stops, exhausted, not_none, may, ends}
+use Rattle.issuing.proofs.Issued.{stopped, entry_err, read_stops, exhausted, covered, may, ends}
 use Rattle.issuing.proofs.issue_into.Goals as goal
 
 pub returns-in_err-may_issue : goal.returns-in_err-may_issue
@@ -17,14 +17,14 @@ pub returns-then-survey-ge-LEAVES : goal.returns-then-survey-ge-LEAVES
 returns-then-survey-ge-LEAVES g c =
     rw c.plain.ensures (exhausted _ _ _ _ _ _ c.in_ok-may_issue.ensures _ _ c.number.ensures c.number-2.ensures _ c.in_ok-survey.ensures.is c.if-survey-ge-LEAVES.true)
 
+pub unwrap-found-requires : goal.unwrap-found-requires
+unwrap-found-requires g c =
+    covered (kit_of (g.G.Generator.expansion c.args.g.now) (g.G.Generator.code c.args.g.now) (g.S.Sealer.sealing c.args.s.now) (g.S.Sealer.overhead c.args.s.now) (g.S.Sealer.number c.args.s.now)) _ _ _ _ _ c.in_ok-may_issue.ensures _ _ c.number.ensures c.number-2.ensures _ c.in_ok-survey.ensures.is c.in_ok-survey.ensures.laws c.if-survey-ge-LEAVES.false
+
 pub issue_found-requires : goal.issue_found-requires
 issue_found-requires g c =
-    may (kit_of (g.G.Generator.expansion c.args.g.now) (g.G.Generator.code c.args.g.now) (g.S.Sealer.sealing c.args.s.now) (g.S.Sealer.overhead c.args.s.now) (g.S.Sealer.number c.args.s.now)) _ _ _ _ _ c.in_ok-may_issue.ensures _ _ c.number.ensures c.number-2.ensures _ c.in_ok-survey.ensures.is c.in_ok-survey.ensures.laws c.if-survey-ge-LEAVES.false _ c.in-Some.is
+    may (kit_of (g.G.Generator.expansion c.args.g.now) (g.G.Generator.code c.args.g.now) (g.S.Sealer.sealing c.args.s.now) (g.S.Sealer.overhead c.args.s.now) (g.S.Sealer.number c.args.s.now)) _ _ _ _ _ c.in_ok-may_issue.ensures _ _ c.number.ensures c.number-2.ensures _ c.in_ok-survey.ensures.is c.in_ok-survey.ensures.laws c.if-survey-ge-LEAVES.false _ c.unwrap-found.ensures
 
-pub returns-in-Some : goal.returns-in-Some
-returns-in-Some g c =
-    ends _ _ _ _ _ _ c.in_ok-may_issue.ensures _ _ c.number.ensures c.number-2.ensures _ c.in_ok-survey.ensures.is c.in_ok-survey.ensures.laws c.if-survey-ge-LEAVES.false _ c.in-Some.is _ _ _ _ c.issue_found.ensures
-
-pub returns-in-None : goal.returns-in-None
-returns-in-None g c =
-    absurd (not_none (kit_of (g.G.Generator.expansion c.args.g.now) (g.G.Generator.code c.args.g.now) (g.S.Sealer.sealing c.args.s.now) (g.S.Sealer.overhead c.args.s.now) (g.S.Sealer.number c.args.s.now)) _ _ _ _ _ c.in_ok-may_issue.ensures _ _ c.number.ensures c.number-2.ensures _ c.in_ok-survey.ensures.is c.in_ok-survey.ensures.laws c.if-survey-ge-LEAVES.false c.in-None.is)
+pub returns : goal.returns
+returns g c =
+    ends _ _ _ _ _ _ c.in_ok-may_issue.ensures _ _ c.number.ensures c.number-2.ensures _ c.in_ok-survey.ensures.is c.in_ok-survey.ensures.laws c.if-survey-ge-LEAVES.false _ c.unwrap-found.ensures _ _ _ _ c.issue_found.ensures

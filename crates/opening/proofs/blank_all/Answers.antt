@@ -1,14 +1,11 @@
-use Rattle.std.proofs.Common.{◌<◌, length, sym, refl, arith}
+use Rattle.std.proofs.Common.{◌<◌, length, sym, arith}
 use Rattle.std.proofs.lemmas.Result.{err_from_is_err_and}
 use Rattle.device.specs.Effects.{blank}
 use Rattle.fault.specs.declared.Step.TheVariants.{Make}
 use Rattle.steps.specs.OneStep.{write_of}
-use Rattle.steps.proofs.Plans.{ran_none, ran_next, ran_cut, ran_as}
+use Rattle.steps.proofs.Plans.{ran_next, ran_cut, ran_as}
 use Rattle.opening.proofs.Blanks.{blank_more, blank_around}
 use Rattle.opening.proofs.blank_all.Goals as goal
-
-pub loop-i-init : goal.loop-i-init
-loop-i-init g c = ran_none _ _ _ refl c.requires.1
 
 pub returns-in_err-write_at : goal.returns-in_err-write_at
 returns-in_err-write_at g c =

@@ -1,31 +1,25 @@
 use Rattle.std.proofs.Common.{Err, refl, ap, ◌∙◌}
 use Rattle.std.proofs.lemmas.Result.{err_from_is_err_and}
 use Rattle.tree.specs.Nodes.{tree_levels}
-use Rattle.rules.specs.Calls.{declined, stopped}
+use Rattle.rules.specs.Calls.{declined}
 use Rattle.opening.proofs.Reopened.{faulty_from, swept_from}
 use Rattle.opening.proofs.restart_and_sweep.Goals as goal
 
 pub returns-in_err-count : goal.returns-in_err-count
 returns-in_err-count g c =
     let p = err_from_is_err_and c.from_residual.result c.from_residual.ensures.1 in
-    λ k e f. declined _ c.in_err-count.ensures (p.1 ∙ ap Err p.2) refl refl
-
-pub returns-in_err-restart : goal.returns-in_err-restart
-returns-in_err-restart g c =
-    let p = err_from_is_err_and c.from_residual-in_err-restart.result c.from_residual-in_err-restart.ensures.1 in
-    let u = c.in_err-restart.ensures in
-    λ k e f. stopped c.in_ok-count.ensures.0 (p.1 ∙ ap Err (p.2 ∙ u.0)) u.1 u.2
+    λ k e. declined _ c.in_err-count.ensures (p.1 ∙ ap Err p.2) refl refl
 
 pub returns-in_err-read_marking : goal.returns-in_err-read_marking
 returns-in_err-read_marking g c =
     let p = err_from_is_err_and c.from_residual-in_err-read_marking.result c.from_residual-in_err-read_marking.ensures.1 in
     let n = c.in_ok-count.ensures in
     let u = c.in_ok-restart.ensures in
-    λ k e f. rw (p.1, p.2) (faulty_from k tree_levels _ _ _ _ _ _ _ _ e f u.0 u.1 n.0 c.in_err-read_marking.ensures.is)
+    λ k e. rw (p.1, p.2) (faulty_from k tree_levels _ _ _ _ _ _ _ _ (ap (λ n. n.generator) e) (ap (λ n. n.sealer) e) u.0 u.1 n.0 c.in_err-read_marking.ensures.is)
 
 pub returns : goal.returns
 returns g c =
     let n = c.in_ok-count.ensures in
     let u = c.in_ok-restart.ensures in
     let a = c.in_ok-read_marking.ensures in
-    λ k e f. swept_from k tree_levels _ _ _ c.in_ok-count.count _ _ _ _ _ c.read_marking.new.marks _ _ _ e f u.0 u.1 n.0 n.1 c.read_marking.auto.marks a.is a.marks c.sweep.ensures
+    λ k e. swept_from k tree_levels _ _ _ c.in_ok-count.count _ _ _ _ _ c.read_marking.new.marks _ _ _ (ap (λ n. n.generator) e) (ap (λ n. n.sealer) e) u.0 u.1 n.0 n.1 c.read_marking.auto.marks a.is a.marks c.sweep.ensures

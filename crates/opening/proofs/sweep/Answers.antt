@@ -1,10 +1,7 @@
-use Rattle.std.proofs.Common.{refl, ◌∙◌}
+use Rattle.std.proofs.Common.{◌∙◌}
 use Rattle.std.proofs.lemmas.Result.{err_from_is_err_and}
-use Rattle.opening.proofs.Swept.{sofar_none, ran_on, ran_long, swept_more, swept_cut, swept_all}
+use Rattle.opening.proofs.Swept.{ran_on, ran_long, swept_more, swept_cut, swept_all}
 use Rattle.opening.proofs.sweep.Goals as goal
-
-pub loop-i-init : goal.loop-i-init
-loop-i-init g c = let pre = c.requires in (pre.1, refl, λ xs e long. sofar_none _ xs _ pre.1)
 
 pub returns-in_err-sweep_slot : goal.returns-in_err-sweep_slot
 returns-in_err-sweep_slot g c =

@@ -1,5 +1,5 @@
 use Rattle.std.proofs.Common.{[], get_or, sym, ap, ◌∙◌}
-use Rattle.rules.specs.Files.{is_blank}
+use Rattle.octets.specs.Buffers.{is_blank}
 use Rattle.opening.proofs.Swept.{one_swept}
 use Rattle.opening.proofs.sweep_slot.Goals as goal
 

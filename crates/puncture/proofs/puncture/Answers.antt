@@ -1,47 +1,47 @@
-use Rattle.std.proofs.Common.{arith}
+use Rattle.std.proofs.Common.{◌∙◌, arith}
 use Rattle.std.proofs.lemmas.Result.{err_from_is_err_and}
 use Rattle.tree.specs.Nodes.{tree_levels}
-use Rattle.puncture.proofs.Values.{listed_nodes, listed_fit}
+use Rattle.puncture.proofs.Values.{listed_fit}
 use Rattle.puncture.proofs.Done.{way_down, is_able, may_join, cut_records, cut_join, punctured}
 use Rattle.puncture.proofs.puncture.Goals as goal
 
 pub returns-in_default : goal.returns-in_default
 returns-in_default g c = record {
-  did = λ k f front x back v. absurd (c.in_default.ensures.0 (way_down v (g.D.ReadSlots.sized c.args.d.now) (omega arith)));
+  did = λ k f front x back v. absurd (c.in_default.ensures (way_down v (omega arith)));
   clean = c.drop-guard.ensures;
 }
 
 pub write_records-requires : goal.write_records-requires
-write_records-requires g c = listed_fit tree_levels c.args.n c.args.found.now.node c.in-Some.many c.siblings.new.row c.in-Some.ensures
+write_records-requires g c = rw c.as_slice.ensures (listed_fit tree_levels c.args.n c.args.found.now.node c.in-Some.siblings c.in-Some.ensures)
 
 pub returns-in_err-first : goal.returns-in_err-first
 returns-in_err-first g c =
     let p = err_from_is_err_and c.from_residual.result c.from_residual.ensures.1 in
-    let is = listed_nodes tree_levels c.args.n c.args.found.now.node c.in-Some.many c.siblings.new.row c.in-Some.ensures in
+    let is = c.as_slice.ensures ∙ c.in-Some.ensures.2 in
     record {
-      did = λ k f front x back v. rw (p.1, p.2) (cut_records v (g.D.ReadSlots.sized c.args.d.now) _ is (c.in_err-first.ensures (is_able v (g.D.ReadSlots.sized c.args.d.now) _ is)));
+      did = λ k f front x back v. rw (p.1, p.2) (cut_records v _ is (c.in_err-first.ensures (is_able v _ is)));
       clean = c.drop-guard-in_err-first.ensures;
     }
 
 pub returns-in_err-join : goal.returns-in_err-join
 returns-in_err-join g c =
     let p = err_from_is_err_and c.from_residual-in_err-join.result c.from_residual-in_err-join.ensures.1 in
-    let is = listed_nodes tree_levels c.args.n c.args.found.now.node c.in-Some.many c.siblings.new.row c.in-Some.ensures in
+    let is = c.as_slice.ensures ∙ c.in-Some.ensures.2 in
     record {
       did = λ k f front x back v.
-          let l = c.in_ok-first.ensures (is_able v (g.D.ReadSlots.sized c.args.d.now) _ is) in
-          let m = may_join v (g.D.ReadSlots.sized c.args.d.now) _ is l in
-          rw (p.1, p.2) (cut_join v (g.D.ReadSlots.sized c.args.d.now) _ is l (c.in_err-join.ensures m.0 m.1));
+          let l = c.in_ok-first.ensures (is_able v _ is) in
+          let m = may_join v _ is l in
+          rw (p.1, p.2) (cut_join v _ is l (c.in_err-join.ensures m.0 m.1));
       clean = c.drop-guard-in_err-join.ensures;
     }
 
 pub returns : goal.returns
 returns g c =
-    let is = listed_nodes tree_levels c.args.n c.args.found.now.node c.in-Some.many c.siblings.new.row c.in-Some.ensures in
+    let is = c.as_slice.ensures ∙ c.in-Some.ensures.2 in
     record {
       did = λ k f front x back v.
-          let l = c.in_ok-first.ensures (is_able v (g.D.ReadSlots.sized c.args.d.now) _ is) in
-          let m = may_join v (g.D.ReadSlots.sized c.args.d.now) _ is l in
-          punctured v (g.D.ReadSlots.sized c.args.d.now) _ is l (c.in_ok-join.ensures m.0 m.1) c.write_at.ensures;
+          let l = c.in_ok-first.ensures (is_able v _ is) in
+          let m = may_join v _ is l in
+          punctured v _ is l (c.in_ok-join.ensures m.0 m.1) c.write_at.ensures;
       clean = c.drop-guard-2.ensures;
     }

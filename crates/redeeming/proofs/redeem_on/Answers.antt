@@ -1,9 +1,9 @@
-use Rattle.std.proofs.Common.{◌≡◌, length, ap, ◌∙◌}
+use Rattle.std.proofs.Common.{◌≡◌, length, sym, ap, ◌∙◌}
 use Rattle.octets.specs.Buffers.{zeros}
 use Rattle.rules.specs.Calls.{kept}
 use Rattle.redeeming.proofs.Spends.{cleared, kept_err, kept_ok}
 use Rattle.redeeming.proofs.redeem_on.Goals as goal
-use Rattle.redeeming.proofs.redeem_on.Goals.{in-Err, in_default}
+use Rattle.redeeming.proofs.redeem_on.Goals.{then-is_err, else-is_err}
 
 pub returns-clause-did : goal.returns-clause-did
 returns-clause-did g c =
@@ -11,8 +11,8 @@ returns-clause-did g c =
     let out = c.redeem_in-answer.new.state in
     let room = length c.args.state.now in
     let l : length out ≡ room = c.redeem_in-answer.auto.state in
-    let e : c.match-answer.state ≡ kept r room out = elim c.match-answer.branch [
-      | in-Err w ↦ kept_err r _ room out c.match-answer.state w.in-Err.is (w.state-is ∙ w.clear.ensures ∙ ap zeros l)
-      | in_default w ↦ kept_ok r room out c.match-answer.state w.in_default.not-Err w.state-is
+    let e : c.if-is_err.state ≡ kept r room out = elim c.if-is_err.branch [
+      | then-is_err w ↦ w.state-is ∙ w.clear.ensures ∙ ap zeros l ∙ sym (kept_err r room out (sym c.is_err.ensures.value ∙ w.if-is_err.true))
+      | else-is_err w ↦ w.state-is ∙ sym (kept_ok r room out (sym c.is_err.ensures.value ∙ w.if-is_err.false))
     ] in
     cleared out e c.redeem_in-answer.ensures

@@ -1,7 +1,6 @@
-use Rattle.std.proofs.Common.{rules, ◌≡◌, ◌≤◌, length, take, drop, min, ℕ, ◌+◌, ◌-◌, ◌<◌, List, [], ◌∷◌, ◌++◌, replicate, arith, ◌∙◌}
+use Rattle.std.proofs.Common.{◌≡◌, ◌≤◌, length, replicate, arith, ◌∙◌}
 use Rattle.std.proofs.lemmas.List.{drop-replicate, length-take-le}
 use Rattle.std.proofs.lemmas.Slice.{drop-append-drop}
-use Rattle.session.specs.Records.{Fits}
 use Rattle.samples.proofs.session.Goals as goal
 
 pub returns : goal.returns

@@ -1,13 +1,17 @@
-use Rattle.std.proofs.Common.{◌≡◌, ℕ, ◌-◌, ◌*◌, ◌<◌, ◌≤◌, length, get_or}
-use Rattle.sealing.specs.Covering.{covered_at}
+use Rattle.std.proofs.Common.{◌≡◌, ◌*◌, length, take, drop, min}
+use Rattle.std.specs.Slice.Iter.{chunks_rest, chunks_size}
+use Rattle.sealing.specs.Covering.{covered}
 use Rattle.sealing.proofs.cover.Given as goal
 
-abbrev pub invariant-loop-at : goal.invariant-loop-at
-invariant-loop-at g l =
-    (l.at ≡ l.index * l.size)
-    × (l.index ≤ l.at)
-    × ((k : ℕ) → k < l.at → k < length l.plain → get_or l.out k 0 ≡ covered_at (g.S.Scheme.block l.scheme l.key) l.size l.plain k)
-    × ((k : ℕ) → length l.plain ≤ k → get_or l.out k 0 ≡ get_or l.initial.out k 0)
-
-abbrev pub decreases-loop-at : goal.decreases-loop-at
-decreases-loop-at g l = length l.plain - l.at
+abbrev pub invariant-loop-index : goal.invariant-loop-index
+invariant-loop-index g l =
+    let parts = l.index-iterator in
+    let at = min (parts.count * l.size) (length l.plain) in
+    record {
+      next : (goal.iterator-loop-index g).can_next parts;
+      ends : (goal.iterator-loop-index g).is_finite parts;
+      size : chunks_size parts.iter ≡ l.size;
+      rest : chunks_rest parts.iter ≡ drop (parts.count * l.size) l.plain;
+      front : take at l.out ≡ take at (covered (g.S.Scheme.block l.scheme l.key) l.size l.plain);
+      left : drop (length l.plain) l.out ≡ drop (length l.plain) l.initial.out;
+    }

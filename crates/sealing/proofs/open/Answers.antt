@@ -1,46 +1,34 @@
-use Rattle.std.proofs.Common.{◌≡◌, ℕ, ◌-◌, List, ◌++◌, length, take, drop, sym, refl, ap, ◌∙◌, arith}
-use Rattle.std.proofs.lemmas.List.{length-replicate, length-take-le, take_rest}
+use Rattle.std.proofs.Common.{ℕ, List, length, take, sym, refl, ap, ◌∙◌, inl, inr, arith}
 use Rattle.std.proofs.lemmas.Bool.{false≢true}
-use Rattle.octets.specs.Buffers.{filled}
 use Rattle.sealing.specs.Covering.{covered}
 use Rattle.sealing.proofs.Covers.{covered_long}
-use Rattle.sealing.proofs.Opens.{filled_front, covered_zeros, too_short, too_long, other_tag, same_tag}
+use Rattle.sealing.proofs.Opens.{filled_front, covered_zeros, no_length, other_tag, same_tag}
 use Rattle.sealing.proofs.open.Goals as goal
-use Rattle.sealing.proofs.open.Goals.{then-sealed-extra-via-then-sealed-extra, then-sealed-extra-via-else-sealed-extra+then-sealed-extra-gt-PLAIN_LIMIT}
 
-pub returns-then-sealed-extra-clause-opened : goal.returns-then-sealed-extra-clause-opened
-returns-then-sealed-extra-clause-opened g c =
-    let block : ℕ → List ℕ = g.S.Scheme.block c.args.scheme.now c.args.key.now in
-    let size : ℕ = g.S.Scheme.size c.args.scheme.now in
-    let tag : List ℕ → List ℕ = g.S.Scheme.tag c.args.scheme.now c.args.key.now c.args.heading.now in
-    let x : ℕ = c.extra-extra.result in
-    let tagged : (b : List ℕ) → length (tag b) ≡ x = λ b. g.met.S.Scheme.tagged c.args.scheme.now c.args.key.now c.args.heading.now b ∙ sym c.extra-extra.ensures in
-    let sealed : List ℕ = c.args.sealed.now in
-    let room : length c.clear_both.new.out ≡ length c.args.out.now = ap length c.clear_both.ensures.out ∙ length-replicate {A = ℕ} (length c.args.out.now) 0 in (
+pub returns-in_default-clause-opened : goal.returns-in_default-clause-opened
+returns-in_default-clause-opened g c =
+    let tagged = g.met.S.Scheme.tagged c.args.scheme.now c.args.key.now c.args.heading.now in (
       omega arith,
-      elim c.then-sealed-extra.branch [
-        | then-sealed-extra-via-then-sealed-extra w ↦ too_short block size tag x tagged sealed w.if-sealed-extra.true
-        | then-sealed-extra-via-else-sealed-extra+then-sealed-extra-gt-PLAIN_LIMIT w ↦ too_long block size tag x tagged sealed w.if-sealed-extra-gt-PLAIN_LIMIT.true
-      ],
+      no_length _ _ _ _ tagged c.args.sealed.now (inl (omega (arith, c.in_default.ensures))),
+      c.clear_both.ensures.out,
+    )
+
+pub returns-then-n-gt-PLAIN_LIMIT-clause-opened : goal.returns-then-n-gt-PLAIN_LIMIT-clause-opened
+returns-then-n-gt-PLAIN_LIMIT-clause-opened g c =
+    let tagged = g.met.S.Scheme.tagged c.args.scheme.now c.args.key.now c.args.heading.now in (
+      omega arith,
+      no_length _ _ _ _ tagged c.args.sealed.now (inr (omega (arith, c.in-Some.ensures))),
       c.clear_both.ensures.out,
     )
 
 pub returns-then-not-same_bytes-clause-opened : goal.returns-then-not-same_bytes-clause-opened
 returns-then-not-same_bytes-clause-opened g c =
-    let block : ℕ → List ℕ = g.S.Scheme.block c.args.scheme.now c.args.key.now in
-    let size : ℕ = g.S.Scheme.size c.args.scheme.now in
-    let tag : List ℕ → List ℕ = g.S.Scheme.tag c.args.scheme.now c.args.key.now c.args.heading.now in
-    let x : ℕ = c.extra-extra.result in
-    let tagged : (b : List ℕ) → length (tag b) ≡ x = λ b. g.met.S.Scheme.tagged c.args.scheme.now c.args.key.now c.args.heading.now b ∙ sym c.extra-extra.ensures in
-    let sealed : List ℕ = c.args.sealed.now in
-    let n : ℕ = length sealed - x in
-    let room : length c.clear_both.new.out ≡ length c.args.out.now = ap length c.clear_both.ensures.out ∙ length-replicate {A = ℕ} (length c.args.out.now) 0 in
-    let whole : x ≡ x - 0 = omega arith in
-    let from : n - 0 ≡ n = omega arith in
-    let told : take (x - 0) c.tag.new.out ≡ tag (take n sealed) = ap (take (x - 0)) c.tag.ensures.tagged ∙ filled_front (tag (take (n - 0) sealed)) 32 (x - 0) (tagged (take (n - 0) sealed) ∙ whole) ∙ ap (λ (m : ℕ). tag (take m sealed)) from in
-    let rest : take (length sealed - n) (drop n sealed) ≡ drop n sealed = take_rest sealed n in (
+    let tagged = g.met.S.Scheme.tagged c.args.scheme.now c.args.key.now c.args.heading.now in
+    let bytes : List ℕ = c.split_at.result.0.now in
+    let end : List ℕ = c.split_at.result.1.now in
+    let told = ap (take c.extra-extra.result) c.tag.ensures.tagged ∙ filled_front (g.S.Scheme.tag c.args.scheme.now c.args.key.now c.args.heading.now bytes) 32 c.extra-extra.result (tagged bytes ∙ sym c.extra-extra.ensures) in (
       omega arith,
-      other_tag block size tag x tagged sealed (λ e. false≢true (c.if-not-same_bytes.ensures.1 (told ∙ e ∙ sym rest))),
+      other_tag _ _ _ _ tagged c.args.sealed.now bytes end c.split_at.ensures.by_index.0 (omega (arith, c.in-Some.ensures)) (λ e. false≢true (c.if-not-same_bytes.ensures.1 (told ∙ e))),
       c.clear_both.ensures.out,
     )
 
@@ -48,29 +36,17 @@ pub returns-clause-opened : goal.returns-clause-opened
 returns-clause-opened g c =
     let block : ℕ → List ℕ = g.S.Scheme.block c.args.scheme.now c.args.key.now in
     let size : ℕ = g.S.Scheme.size c.args.scheme.now in
-    let tag : List ℕ → List ℕ = g.S.Scheme.tag c.args.scheme.now c.args.key.now c.args.heading.now in
-    let x : ℕ = c.extra-extra.result in
-    let tagged : (b : List ℕ) → length (tag b) ≡ x = λ b. g.met.S.Scheme.tagged c.args.scheme.now c.args.key.now c.args.heading.now b ∙ sym c.extra-extra.ensures in
-    let sealed : List ℕ = c.args.sealed.now in
-    let n : ℕ = length sealed - x in
-    let room : length c.clear_both.new.out ≡ length c.args.out.now = ap length c.clear_both.ensures.out ∙ length-replicate {A = ℕ} (length c.args.out.now) 0 in
-    let whole : x ≡ x - 0 = omega arith in
-    let from : n - 0 ≡ n = omega arith in
-    let told : take (x - 0) c.tag.new.out ≡ tag (take n sealed) = ap (take (x - 0)) c.tag.ensures.tagged ∙ filled_front (tag (take (n - 0) sealed)) 32 (x - 0) (tagged (take (n - 0) sealed) ∙ whole) ∙ ap (λ (m : ℕ). tag (take m sealed)) from in
-    let rest : take (length sealed - n) (drop n sealed) ≡ drop n sealed = take_rest sealed n in
-    let same : tag (take n sealed) ≡ drop n sealed = sym told ∙ c.if-not-same_bytes.ensures.0 refl ∙ rest in
-    let plain : List ℕ = covered block size (take n sealed) in
-    let out : c.cover.new.out ≡ filled plain (length c.args.out.now) =
-    c.cover.ensures
-    ∙ ap (λ (m : ℕ). covered block size (take m sealed) ++ drop (length (take m sealed)) c.clear_both.new.out) from
-    ∙ covered_zeros block size (take n sealed) c.clear_both.new.out (length c.args.out.now) c.clear_both.ensures.out in (
+    let tagged = g.met.S.Scheme.tagged c.args.scheme.now c.args.key.now c.args.heading.now in
+    let bytes : List ℕ = c.split_at.result.0.now in
+    let end : List ℕ = c.split_at.result.1.now in
+    let told = ap (take c.extra-extra.result) c.tag.ensures.tagged ∙ filled_front (g.S.Scheme.tag c.args.scheme.now c.args.key.now c.args.heading.now bytes) 32 c.extra-extra.result (tagged bytes ∙ sym c.extra-extra.ensures) in (
       omega arith,
       (
-        plain,
+        covered block size bytes,
         (
-          same_tag block size tag x tagged sealed c.if-sealed-extra.false c.if-sealed-extra-gt-PLAIN_LIMIT.false same,
-          sym (covered_long block size (take n sealed) ∙ length-take-le n sealed (omega arith)),
-          out,
+          same_tag _ _ _ _ tagged c.args.sealed.now bytes end c.split_at.ensures.by_index.0 (omega arith) (sym told ∙ c.if-not-same_bytes.ensures.0 refl),
+          omega (arith, covered_long block size bytes),
+          c.cover.ensures ∙ covered_zeros block size bytes c.clear_both.new.out (length c.args.out.now) c.clear_both.ensures.out,
         ),
       ),
     )

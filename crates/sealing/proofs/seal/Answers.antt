@@ -1,6 +1,5 @@
 use Rattle.std.proofs.Common.{◌≡◌, ℕ, ◌+◌, ◌-◌, List, length, take, sym, refl, ap, ◌∙◌, arith}
 use lib.Seq.{paste}
-use Rattle.std.proofs.lemmas.List.{length-replicate}
 use Rattle.std.proofs.lemmas.Slice.{put_mid-paste}
 use Rattle.octets.specs.Buffers.{filled}
 use Rattle.sealing.specs.Covering.{covered}
@@ -14,23 +13,16 @@ returns-clause-sealed g c =
     let size : ℕ = g.S.Scheme.size c.args.scheme.now in
     let tag : List ℕ → List ℕ = g.S.Scheme.tag c.args.scheme.now c.args.key.now c.args.heading.now in
     let x : ℕ = c.extra-extra.result in
-    let is : x ≡ g.S.Scheme.extra c.args.scheme.now = c.extra-extra.ensures in
     let plain : List ℕ = c.args.plain.now in
     let n : ℕ = length plain in
     let room : ℕ = length c.args.out.now in
     let bytes : List ℕ = covered block size plain in
-    let cleared : length c.clear_both.new.out ≡ room = ap length c.clear_both.ensures.out ∙ length-replicate {A = ℕ} room 0 in
+    let long : length (tag bytes) ≡ x = g.met.S.Scheme.tagged c.args.scheme.now c.args.key.now c.args.heading.now bytes ∙ sym c.extra-extra.ensures in
     let laid : c.cover.new.out ≡ filled bytes room = c.cover.ensures ∙ covered_zeros block size plain c.clear_both.new.out room c.clear_both.ensures.out in
-    let front : take (n - 0) c.cover.new.out ≡ bytes =
-    ap (take (n - 0)) laid ∙ filled_front bytes room (n - 0) (omega (arith, covered_long block size plain)) in
-    let tagged : (b : List ℕ) → length (tag b) ≡ x = λ b. g.met.S.Scheme.tagged c.args.scheme.now c.args.key.now c.args.heading.now b ∙ sym is in
-    let read : List ℕ = take (n - 0) c.cover.new.out in
-    let whole : x ≡ x - 0 = omega arith in
+    let front : take n c.cover.new.out ≡ bytes = ap (take n) laid ∙ filled_front bytes room n (covered_long block size plain) in
     let end : c.copy_from_slice.new.self ≡ tag bytes =
-    c.copy_from_slice.ensures.after ∙ ap (take (x - 0)) c.tag.ensures.tagged ∙ filled_front (tag read) 32 (x - 0) (tagged read ∙ whole) ∙ ap tag front in
-    let long : length (tag bytes) ≡ x = tagged bytes in
-    let written = put_mid-paste n (n + x - n) c.cover.new.out c.copy_from_slice.new.self (tag bytes) x end (omega arith) (sym long) in (
+    c.copy_from_slice.ensures.after ∙ ap (take x) (c.tag.ensures.tagged ∙ ap (λ b. filled (tag b) 32) front) ∙ filled_front (tag bytes) 32 x long in (
       (omega arith, omega arith),
       omega arith,
-      (written ∙ ap (λ (o : List ℕ). paste o n (tag bytes) x) laid ∙ sealed_parts block size tag x plain (tag bytes) room long refl (omega arith)),
+      put_mid-paste n (n + x - n) c.cover.new.out c.copy_from_slice.new.self (tag bytes) x end (omega arith) (sym long) ∙ ap (λ o. paste o n (tag bytes) x) laid ∙ sealed_parts block size tag x plain (tag bytes) room long refl (omega arith),
     )

@@ -38,5 +38,5 @@ returns c =
     let name : c.put_part-2.new.row ≡ filled rest 32 =
     c.put_part-2.ensures ∙ simp (n, take_rest) (filled_next [] rest 32 0 (length rest) refl refl (omega arith)) in
     read_made c.args.suite c.args.bytes.now _ _ _ _ _ _ _
-    c.get_u64.ensures c.get_u32.ensures c.get_u32-2.ensures c.get_u32-3.ensures secret name
+    c.get.ensures c.get-2.ensures c.get-3.ensures c.get-4.ensures secret name
     (ap (λ (x : ℕ). get_or c.args.bytes.now (22 + x) 0) n)

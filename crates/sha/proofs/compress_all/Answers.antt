@@ -3,12 +3,13 @@ use Rattle.sha.specs.Digest.{absorbed}
 use Rattle.sha.proofs.Absorbed.{absorbed_more}
 use Rattle.sha.proofs.compress_all.Goals as goal
 
-pub loop-i-init : goal.loop-i-init
+pub loop-block-init : goal.loop-block-init
 unfolding absorbed
-loop-i-init c = (refl, c.told-state)
+loop-block-init c = (refl, c.told-state)
 
-pub loop-i-preserved : goal.loop-i-preserved
-loop-i-preserved c = (
-  c.compress.ensures ∙ absorbed_more c.args.state.now c.loop-i.state c.args.blocks.now c.loop-i.i c.loop-i.invariant.0,
+pub loop-block-preserved : goal.loop-block-preserved
+loop-block-preserved c = (
+  c.compress.ensures
+      ∙ absorbed_more c.args.state.now c.loop-block.state c.args.blocks.now c.loop-block.block-index c.told-blocks c.loop-block-test.true c.loop-block.invariant.0,
   c.compress.array_long,
 )

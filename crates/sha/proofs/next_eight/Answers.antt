@@ -1,4 +1,4 @@
-use Rattle.std.proofs.Common.{◌≡◌, ℕ, suc, ◌+◌, ◌<◌, List, length, take, set, subst, add-zero, arith, length-set}
+use Rattle.std.proofs.Common.{◌≡◌, ℕ, suc, ◌+◌, ◌<◌, List, length, take, set, subst, arith, length-set}
 use Rattle.std.proofs.lemmas.List.{take_more_set, get_or-take}
 use Rattle.sha.specs.Digest.{next_of, scheduled}
 use Rattle.sha.proofs.next_eight.Goals as goal
@@ -21,17 +21,17 @@ more b w n x fits is so m next =
     let at : m + 16 ≡ (n + 16) + 1 = omega arith in
     rw (at, take_more_set w (n + 16) x fits, is, ← next_take w n, so, next)
 
-pub loop-j-init : goal.loop-j-init
-loop-j-init c = (λ b so. rw add-zero so, c.told-w)
+pub loop-t-init : goal.loop-t-init
+loop-t-init c = (λ b so. so, c.told-w)
 
-pub loop-j-preserved : goal.loop-j-preserved
-loop-j-preserved c =
-    let n : ℕ = c.args.n + c.loop-j.j in (
-      λ b so. more b c.loop-j.w n c.next.result (omega arith) c.next.ensures (c.loop-j.invariant.0 b so) (c.args.n + (c.loop-j.j + 1)) (omega arith),
-      simp length-set c.loop-j.invariant.1,
+pub loop-t-preserved : goal.loop-t-preserved
+loop-t-preserved c =
+    let t : ℕ = c.loop-t.t in (
+      λ b so. more b c.loop-t.w t c.next.result (omega arith) c.next.ensures (c.loop-t.invariant.0 b so) (t + 1) (omega arith),
+      simp length-set c.loop-t.invariant.1,
     )
 
 pub returns : goal.returns
 returns c b so =
-    let j : c.loop-j.j ≡ 8 = omega arith in
-    subst (λ (k : ℕ). take ((c.args.n + k) + 16) c.loop-j.w ≡ scheduled b (c.args.n + k)) j (c.loop-j.invariant.0 b so)
+    let t : c.loop-t.t ≡ c.args.n + 8 = omega arith in
+    subst (λ (k : ℕ). take (k + 16) c.loop-t.w ≡ scheduled b k) t (c.loop-t.invariant.0 b so)

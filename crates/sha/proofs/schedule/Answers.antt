@@ -1,25 +1,10 @@
-use Rattle.std.proofs.Common.{◌≡◌, ℕ, ◌+◌, ◌*◌, List, map, take, sym, ap, ◌∙◌, subst, arith, length-set}
-use Rattle.std.specs.List.{range_with_len}
-use Rattle.std.proofs.lemmas.List.{take_more_set, take_all}
-use Rattle.std.proofs.lemmas.List.FromFn.{map-range_with_len_more}
-use Rattle.sha.specs.Digest.{word_of, scheduled}
+use Rattle.std.proofs.Common.{◌≡◌, ℕ, ◌+◌, ◌*◌, List, take, sym, ap, ◌∙◌, subst, arith}
+use Rattle.std.proofs.lemmas.List.{take_all}
+use Rattle.sha.specs.Digest.{scheduled}
 use Rattle.sha.proofs.schedule.Goals as goal
 
-pub loop-i-preserved : goal.loop-i-preserved
-loop-i-preserved c =
-    let i : ℕ = c.loop-i.i in
-    let b : List ℕ = c.args.block.now in (
-      take_more_set c.loop-i.w i c.word.result (omega arith)
-          ∙ rw (c.loop-i.invariant.0, c.word.ensures) (sym (map-range_with_len_more (word_of b) 0 i i (omega arith))),
-      simp length-set c.loop-i.invariant.1,
-    )
-
 pub loop-m-init : goal.loop-m-init
-unfolding scheduled
-loop-m-init c =
-    let e : c.loop-i.i ≡ 16 = omega arith in
-    let b : List ℕ = c.args.block.now in
-    (subst (λ (i : ℕ). take i c.loop-i.w ≡ map (word_of b) (range_with_len 0 i)) e c.loop-i.invariant.0, c.loop-i.invariant.1)
+loop-m-init c = (c.block_words-w.ensures, omega arith)
 
 pub loop-m-preserved : goal.loop-m-preserved
 loop-m-preserved c =

@@ -1,10 +1,6 @@
-use Rattle.std.proofs.Common.{◌≡◌, ◌+◌, ◌*◌, map, length, take}
-use Rattle.std.specs.List.{range_with_len}
-use Rattle.sha.specs.Digest.{word_of, scheduled}
+use Rattle.std.proofs.Common.{◌≡◌, ◌+◌, ◌*◌, length, take}
+use Rattle.sha.specs.Digest.{scheduled}
 use Rattle.sha.proofs.schedule.Given as goal
-
-abbrev pub invariant-loop-i : goal.invariant-loop-i
-invariant-loop-i l = (take l.i l.w ≡ map (word_of l.block) (range_with_len 0 l.i)) × (length l.w ≡ 64)
 
 abbrev pub invariant-loop-m : goal.invariant-loop-m
 invariant-loop-m l = (take (8 * l.m + 16) l.w ≡ scheduled l.block (8 * l.m)) × (length l.w ≡ 64)

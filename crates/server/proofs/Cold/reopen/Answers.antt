@@ -1,17 +1,7 @@
-use Rattle.rules.specs.Kits.{kit_of}
+use Rattle.rules.proofs.Kits.{lawful_by}
 use Rattle.server.proofs.Goes.{reopen_answered}
 use Rattle.server.proofs.Cold.reopen.Goals as goal
 
-pub returns : goal.returns
-returns g c =
-    record {
-      did = rw c.started.ensures (reopen_answered _ _ (kit_of (g.G.Generator.expansion c.args.self.generator) (g.G.Generator.code c.args.self.generator) (g.S.Sealer.sealing c.args.self.sealer) (g.S.Sealer.overhead c.args.self.sealer) (g.S.Sealer.number c.args.self.sealer)) (record {
-        on_left = λ v e. (g.met.G.Generator.long c.args.self.generator v e).0;
-        on_right = λ v e. (g.met.G.Generator.long c.args.self.generator v e).1;
-        small = g.met.S.Sealer.limited c.args.self.sealer;
-        long = λ key heading plain a b l. g.met.S.Sealer.long c.args.self.sealer key heading plain a b l;
-        apart = λ key heading p q a b l m e. g.met.S.Sealer.apart c.args.self.sealer key heading p q a b l m e;
-      }) _ _ _ _ c.reopen-reopened.ensures.did);
-      marks = c.reopen-reopened.ensures.marks;
-      clean = c.reopen-reopened.ensures.clean;
-    }
+pub returns-clause-did : goal.returns-clause-did
+returns-clause-did g c =
+    rw c.started.ensures (reopen_answered _ _ _ (lawful_by g.G.Generator.expansion g.G.Generator.code g.S.Sealer.sealing g.S.Sealer.overhead g.S.Sealer.number g.met.G.Generator.long g.met.S.Sealer.limited g.met.S.Sealer.long g.met.S.Sealer.apart c.args.self.generator c.args.self.sealer) _ _ _ _ c.reopen-reopened.ensures.did)

@@ -20,10 +20,10 @@ returns c =
     let at : c.secret_length-name_at.result ≡ 32 = c.secret_length-name_at.ensures in
     let from : s.name_length - 0 ≡ s.name_length = omega arith in
     let all : c.put_part-2.new.row ≡ filled (encode_of s) n =
-    filled_parts s n t f room c.clear.new.b c.put_u16.new.b c.put_u64.new.b c.put_u32.new.b c.put_u32-2.new.b c.put_u32-3.new.b c.put_part.new.row c.put_part-2.new.row
+    filled_parts s n t f room c.clear.new.b c.put.new.b c.put-2.new.b c.put-3.new.b c.put-4.new.b c.put-5.new.b c.put_part.new.row c.put_part-2.new.row
     c.clear.ensures
-    (c.put_u16.ensures ∙ ap (λ (x : ℕ). paste c.clear.new.b 0 (bytes_of 2 x) 2) c.number.ensures)
-    c.put_u64.ensures c.put_u32.ensures c.put_u32-2.ensures c.put_u32-3.ensures c.put_part.ensures
+    (c.put.ensures ∙ ap (λ (x : ℕ). paste c.clear.new.b 0 (bytes_of 2 x) 2) c.from.ensures)
+    c.put-2.ensures c.put-3.ensures c.put-4.ensures c.put-5.ensures c.put_part.ensures
     (c.put_part-2.ensures ∙ simp (at, from)) in
     let k : 22 + c.secret_length-name_at.result + 1 + s.name_length ≡ name_at s.suite + 1 + s.name_length = ap (λ (x : ℕ). 22 + x + 1 + s.name_length) c.secret_length-name_at.ensures in
     record {
