@@ -13,6 +13,9 @@ use medium::Cut;
 use memory::Memory;
 use sectors::SectorImage;
 
+// An enum of our own, and not that of the library's crate `either`: only crate device could give its traits to that one, and would stand on
+// it for these programs alone. No `dyn`: `lay` hands it out, which the gate refuses.
+
 /// A device of one of two kinds. Each call is the same call of the one that it is.
 #[derive(Drop)]
 pub enum Either<A, B> {
@@ -21,11 +24,9 @@ pub enum Either<A, B> {
 }
 
 impl<A: ReadSlots, B: ReadSlots> ReadSlots for Either<A, B> {
-    ghost slots = { λ d. by_kind A.slots B.slots d };
+    ghost state = { by_kind A.state B.state };
 
-    ghost powered = { λ d. by_kind A.powered B.powered d };
-
-    ghost sized = { λ d k h. sized_by_kind A.slots B.slots A.sized B.sized d k h };
+    ghost sized = { λ d k h. sized_by_kind A.state B.state A.sized B.sized d k h };
 
     fn count(&self) -> usize {
         match self {
@@ -34,7 +35,7 @@ impl<A: ReadSlots, B: ReadSlots> ReadSlots for Either<A, B> {
         }
     }
 
-    fn read(&self, index: usize, out: &mut [u8; 64]) -> Result<(), DeviceFault> {
+    fn read(&self, index: usize, out: &mut [u8; SLOT_SIZE]) -> Result<(), DeviceFault> {
         match self {
             Either::First(device) => device.read(index, out),
             Either::Second(device) => device.read(index, out),
@@ -43,7 +44,7 @@ impl<A: ReadSlots, B: ReadSlots> ReadSlots for Either<A, B> {
 }
 
 impl<A: TearSlots, B: TearSlots> TearSlots for Either<A, B> {
-    fn write(&mut self, index: usize, bytes: &[u8; 64]) -> Result<(), DeviceFault> {
+    fn write(&mut self, index: usize, bytes: &[u8; SLOT_SIZE]) -> Result<(), DeviceFault> {
         match self {
             Either::First(image) => image.write(index, bytes),
             Either::Second(image) => image.write(index, bytes),
@@ -59,7 +60,7 @@ impl<A: TearSlots, B: TearSlots> TearSlots for Either<A, B> {
 }
 
 impl<A: WriteSlots, B: WriteSlots> WriteSlots for Either<A, B> {
-    fn write(&mut self, index: usize, bytes: &[u8; 64]) -> Result<(), DeviceFault> {
+    fn write(&mut self, index: usize, bytes: &[u8; SLOT_SIZE]) -> Result<(), DeviceFault> {
         match self {
             Either::First(whole) => whole.write(index, bytes),
             Either::Second(whole) => whole.write(index, bytes),
@@ -88,6 +89,7 @@ pub enum Medium {
 }
 
 impl Medium {
+    // The cut is appointed here twice, and once more below: the devices share no trait for that, and one would serve these lines alone.
     /// An image over a lent row, with its power on.
     pub fn lay<'a>(self, row: &'a mut [u8], cut: Option<Cut>) -> Image<'a>
         ensures { LaidImage self row.old cut result }
@@ -96,14 +98,14 @@ impl Medium {
             Medium::Bytes => {
                 let mut bytes = ByteImage::new(row);
                 if let Some(cut) = cut {
-                    bytes.appoint(cut.after, cut.standing);
+                    bytes.appoint(cut);
                 }
                 Either::First(bytes)
             }
             Medium::Sectors => {
                 let mut sectors = SectorImage::new(row);
                 if let Some(cut) = cut {
-                    sectors.appoint(cut.after, cut.standing);
+                    sectors.appoint(cut);
                 }
                 Either::Second(sectors)
             }
@@ -128,7 +130,7 @@ impl Base {
             Base::Whole => {
                 let mut memory = Memory::new(row);
                 if let Some(cut) = cut {
-                    memory.appoint(cut.after, cut.standing);
+                    memory.appoint(cut);
                 }
                 Either::Second(memory)
             }
@@ -136,19 +138,9 @@ impl Base {
     }
 }
 
-/// Puts a device away: its row is free again. There is nothing to promise: it takes the device and answers nothing.
-pub fn put_away<D: Drop, E: Drop>(bed: Either<Journal<D>, E>) {
-    match bed {
-        Either::First(journal) => {
-            let _below = journal.into_below();
-        }
-        Either::Second(_device) => {}
-    }
-}
-
 /// What a slot holds; none where it cannot be read.
 pub fn slot_at<D: ReadSlots>(device: &D, index: usize) -> Option<[u8; SLOT_SIZE]>
-    ensures { result ≡ slot_in (D.slots device.now) (D.powered device.now) index }
+    ensures { result ≡ slot_in (D.state device.now) index }
 {
     let mut slot = [0; SLOT_SIZE];
     device.read(index, &mut slot).ok()?;

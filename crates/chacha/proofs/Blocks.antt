@@ -5,6 +5,7 @@ use Rattle.std.proofs.lemmas.Grind.{flat_map-append}
 use Rattle.std.specs.List.{flat_map, AllByRecursion as All}
 use Rattle.std.proofs.ByRecursion.{All-append}
 use Rattle.chacha.specs.Cipher.{mixed, quarter_round, column_rounds, diagonal_rounds, double_rounds, words_of, start_of, added, serialized, block_of}
+use Rattle.chacha.specs.Laws.{BlockLaws}
 use Rattle.chacha.proofs.Added.{length_added, added_cut}
 
 -- each step keeps the state's length
@@ -60,6 +61,9 @@ unfolding block_of
 block_bytes key counter nonce =
     let s : List ℕ = start_of key counter nonce in
     joined_bytes (added (double_rounds 10 s) s)
+
+pub block_laws : BlockLaws
+block_laws = record { long = block_long; bytes = block_bytes }
 
 -- the bytes of the sums of the words from place i to place j
 unfoldable pub between : ℕ → ℕ → List ℕ → List ℕ → List ℕ

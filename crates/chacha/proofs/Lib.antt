@@ -1,3 +1,2 @@
 pub mod Added
-pub mod Chunks
 pub mod Blocks

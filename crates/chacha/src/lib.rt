@@ -11,6 +11,7 @@ const TEXT: &[u8; 16] = b"expand 32-byte k";
 
 // Key, counter and nonce stay three: they have these names in the standard, and C is to call `block` with them.
 /// Fills `out` with the block of `key`, `counter` and `nonce`. The laws say of every block that it is 64 bytes.
+#[tactic(auto, using(crate::proofs::Blocks::block_laws), unfolding(crate::specs::Cipher::block_of))]
 pub fn block(key: &[u8; 32], counter: u32, nonce: &[u8; 12], out: &mut [u8; 64])
     ensures is { out.new ≡ block_of key.now counter nonce.now }
     ensures laws { BlockLaws }
@@ -21,7 +22,7 @@ pub fn block(key: &[u8; 32], counter: u32, nonce: &[u8; 12], out: &mut [u8; 64])
 }
 
 /// Fills two buffers with the halves of the block of `key`, `counter` and `nonce`.
-// Apart from `block`: one function for both went through an array of sums, and took 168 ns a block in place of 142.
+// Apart from `block`: one function for both went through an array of sums, and took 168 ns a block in place of 142; plain C takes 164.
 pub fn halves(
     key: &[u8; 32],
     counter: u32,
@@ -39,6 +40,7 @@ pub fn halves(
 }
 
 // A start block after the twenty rounds.
+#[tactic(auto, unfolding(crate::specs::Cipher::double_rounds))]
 fn worked(first: &[u32; 16]) -> [u32; 16]
     ensures { result ≡ double_rounds 10 first.now }
 {
@@ -50,7 +52,8 @@ fn worked(first: &[u32; 16]) -> [u32; 16]
 }
 
 // Adds two rows of words, and writes the sums as bytes, each word's lowest first.
-// Made as an array of chunks, the sums take 168 ns a block in place of 142.
+// Made as an array of chunks, the sums take 168 ns a block in place of 142, and plain C 164; over `chunks_exact_mut` an
+// invariant cannot name `out`.
 #[inline(always)]
 fn write_sums(a: &[u32], b: &[u32], out: &mut [u8])
     requires rows { length a.now ≡ length b.now }
@@ -91,6 +94,7 @@ fn start(key: &[u8; 32], counter: u32, nonce: &[u8; 12]) -> [u32; 16]
 }
 
 // A column round and then a diagonal round.
+#[tactic(auto, unfolding(crate::specs::Cipher::column_rounds, crate::specs::Cipher::diagonal_rounds))]
 fn double_round(s: &mut [u32; 16])
     ensures { s.new ≡ diagonal_rounds (column_rounds s.old) }
 {
@@ -105,6 +109,7 @@ fn double_round(s: &mut [u32; 16])
 }
 
 // The words by their places, as the standard names them: a struct of four would be taken apart and put back each time.
+#[tactic(auto, unfolding(crate::specs::Cipher::quarter_round))]
 fn quarter_round(s: &mut [u32; 16], a: usize, b: usize, c: usize, d: usize)
     requires { (a < 16) × ((b < 16) × ((c < 16) × (d < 16))) }
     ensures { s.new ≡ quarter_round a b c d s.old }
@@ -116,6 +121,7 @@ fn quarter_round(s: &mut [u32; 16], a: usize, b: usize, c: usize, d: usize)
 }
 
 // One line of a quarter round: a += b; d ^= a; d <<<= k.
+#[tactic(auto, unfolding(crate::specs::Cipher::rotl, crate::specs::Cipher::mixed))]
 fn mix(s: &mut [u32; 16], a: usize, b: usize, d: usize, k: u32)
     requires { (a < 16) × ((b < 16) × (d < 16)) }
     ensures { s.new ≡ mixed a b d k s.old }

@@ -3,7 +3,9 @@ use Rattle.std.specs.Prelude.{ℕ, ◌+◌, ◌%◌, ◌^◌, List, ◌++◌, ta
 use Rattle.octets.specs.Buffers.{zeros}
 use Rattle.chacha.specs.Cipher.{block_of}
 use Rattle.hmac.specs.Mac.{hmac}
-use Rattle.sealing.specs.Covering.{sealing_of}
+use Rattle.sealer.specs.Meaning.{SealerMeaning}
+use Rattle.sealing.specs.Schemes.{SchemeMeaning}
+use Rattle.sealing.specs.Covering.{sealing_of, sealer_by}
 
 -- the number by which trees name this sealer
 abbrev pub sealer_number : ℕ
@@ -25,6 +27,14 @@ stream_block key i = block_of key ((i + 1) % 2 ^ 32) (zeros 12)
 unfoldable pub tag_of : List ℕ → List ℕ → List ℕ → List ℕ
 tag_of key heading bytes = take tag_size (hmac key (heading ++ bytes))
 
+-- its keystream and its tag
+abbrev pub scheme : SchemeMeaning
+scheme = record { block = stream_block; size = block_size; tag = tag_of; extra = tag_size }
+
 -- the sealing of a plain: the plain under the keystream, then the tag
 abbrev pub sealed_bytes : List ℕ → List ℕ → List ℕ → List ℕ
-sealed_bytes key heading plain = sealing_of (stream_block key) block_size (tag_of key heading) plain
+sealed_bytes = sealing_of scheme
+
+-- what the sealer means
+abbrev pub sealer : SealerMeaning
+sealer = sealer_by scheme sealer_number

@@ -3,16 +3,13 @@
 
 ghost use Rattle.std.specs.Prelude.{◌≡◌, take};
 ghost use Rattle.octets.specs.Buffers.{filled};
-ghost use Rattle.chachaseal.specs.Meaning.{sealer_number, block_size, tag_size, stream_block, tag_of, sealed_bytes};
-ghost use Rattle.chachaseal.specs.Lengths.{stream_long, tag_long};
-ghost use Rattle.std.proofs.Common.{rules};
-ghost use Rattle.sealing.proofs.Covers.{sealing_long};
-ghost use Rattle.sealing.proofs.Covers;
+ghost use Rattle.chachaseal.specs.Meaning.{tag_size, sealer_number, scheme, sealer};
+ghost use Rattle.chachaseal.specs.Promises.{lawful_scheme, lawful_sealer};
 
 use hmac::Hmac;
 use octets::Wiped;
 use refusal::Refusal;
-use sealer::Sealer;
+use sealer::{HEADING, OVERHEAD_LIMIT, Sealer};
 use sealing::Scheme;
 
 // The number by which trees name this sealer.
@@ -36,23 +33,9 @@ fn keep_tag(out: &mut [u8; 32])
 }
 
 impl Scheme for ChaChaSealer {
-    ghost block = { λ _. stream_block };
+    ghost meaning = { λ _. scheme };
 
-    ghost size = { λ _. block_size };
-
-    ghost tag = { λ _. tag_of };
-
-    ghost extra = { λ _. tag_size };
-
-    ghost some = { Prim.search rules };
-
-    ghost held = { Prim.search rules };
-
-    ghost limited = { Prim.search rules };
-
-    ghost whole = { λ _. stream_long };
-
-    ghost tagged = { λ _. tag_long };
+    ghost lawful = { λ _. lawful_scheme };
 
     fn size(&self) -> usize {
         BLOCK_SIZE
@@ -71,9 +54,9 @@ impl Scheme for ChaChaSealer {
     fn tag(
         &self,
         key: &[u8; 32],
-        heading: &[u8; 20],
+        heading: &[u8; HEADING],
         bytes: &[u8],
-        out: &mut [u8; 32],
+        out: &mut [u8; OVERHEAD_LIMIT],
         pad: &mut [u8; 64],
     ) {
         let mut mac = Hmac::new(key, pad);
@@ -84,21 +67,11 @@ impl Scheme for ChaChaSealer {
     }
 }
 
-// Alike in both sealers, and yet twice: a rule of the project gives each of them its own guard on the lent pad.
+// Alike in both sealers, and yet twice: a rule of the project gives each of them its own guard on the lent pad (docs/CIPHERS.md).
 impl Sealer for ChaChaSealer {
-    ghost sealing = { λ _. sealed_bytes };
+    ghost meaning = { λ _. sealer };
 
-    ghost overhead = { λ _. tag_size };
-
-    ghost number = { λ _. sealer_number };
-
-    ghost one_byte = { Prim.search rules };
-
-    ghost limited = { Prim.search rules };
-
-    ghost long = { λ _ key heading plain _ _ _. sealing_long (stream_block key) block_size (tag_of key heading) tag_size (tag_long key heading) plain };
-
-    ghost apart = { λ _ key heading plain other _ _ _ _ same. Covers.apart (stream_block key) block_size (tag_of key heading) tag_size (tag_long key heading) plain other same };
+    ghost lawful = { λ _. lawful_sealer };
 
     fn number(&self) -> u8 {
         NUMBER
@@ -111,7 +84,7 @@ impl Sealer for ChaChaSealer {
     fn seal(
         &self,
         key: &[u8; 32],
-        heading: &[u8; 20],
+        heading: &[u8; HEADING],
         plain: &[u8],
         out: &mut [u8],
         pad: &mut [u8; 64],
@@ -123,7 +96,7 @@ impl Sealer for ChaChaSealer {
     fn open(
         &self,
         key: &[u8; 32],
-        heading: &[u8; 20],
+        heading: &[u8; HEADING],
         sealed: &[u8],
         out: &mut [u8],
         pad: &mut [u8; 64],

@@ -1,10 +1,10 @@
 -- A file laid out as the cover of the spent numbers is read back.
 use Rattle.std.proofs.Common.{◌≡◌, ℕ, suc, ◌+◌, ◌-◌, ◌*◌, ◌/◌, ◌<◌, ◌≤◌, true, false, leb, ◌⊎◌, List, [], ◌∷◌, get_or, Some, None, Option, sym, refl, ap, ◌∙◌, subst, ap₂, inl, inr, ⊎_elim, arith, pow_pos}
-use Rattle.std.proofs.lemmas.Bool.{cases_Bool, cases_lt, le-leb}
+use Rattle.std.proofs.lemmas.Bool.{cases_Bool, le-leb}
 use Rattle.device.specs.Effects.{Slots}
 use Rattle.layout.specs.declared.Head.{Head}
 use Rattle.layout.specs.declared.NodeFields.{NodeFields}
-use Rattle.layout.specs.Records.{head_of, node_of, value_of}
+use Rattle.layout.specs.Records.{head_of, fields_of, node_of, value_of}
 use Rattle.layout.proofs.Trips.{head_trip, node_trip}
 use Rattle.tree.specs.declared.Node.{Node}
 use Rattle.tree.specs.Nodes.{node_at, width_of, IsNode, Covers, Twins}
@@ -16,7 +16,7 @@ use Rattle.tree.proofs.Places.{characterised}
 use Rattle.tree.proofs.Shapes.{multiple, node_to, halved}
 use Rattle.chain.specs.Reading.{Link, File.sound, node_in, link_at, end_of, is_twin, after_twin, may_follow, file_of}
 use Rattle.chain.specs.Listing.{first_slot}
-use Rattle.chain.specs.Sound.{nodes_of, Chained, fields_of, Linked, Laid, FileLaws}
+use Rattle.chain.specs.Sound.{nodes_of, Chained, Linked, Laid, FileLaws}
 use Rattle.chain.proofs.Order.{twin_from}
 use Rattle.chain.proofs.Walks.{laid}
 use Rattle.chain.proofs.Chains.{chained_slots, chained_distinct}
@@ -49,16 +49,7 @@ module _ (d : ℕ) (spent : List ℕ) (x y : Node) (t : Twins d x y) where
 
   -- a number under the parent lies under one of the children
   either_child : (n : ℕ) → Covers d t.parent n → Covers d x n ⊎ Covers d y n
-  either_child n c =
-      let h = halved d t.parent.depth t.above in
-      let wx : width_of d x.depth ≡ width_of d (suc t.parent.depth) = ap (width_of d) dx in
-      let wy : width_of d y.depth ≡ width_of d (suc t.parent.depth) = ap (width_of d) dy in
-      let ex = fx in
-      let ey = fy in
-      ⊎_elim
-      (λ (l : n < t.parent.first + width_of d (suc t.parent.depth)). inl (omega arith, omega arith))
-      (λ (l : t.parent.first + width_of d (suc t.parent.depth) ≤ n). inr (omega arith, omega arith))
-      (cases_lt n (t.parent.first + width_of d (suc t.parent.depth)))
+  either_child n c = grind (arith, halved, dx, dy, fx, fy)
 
   -- siblings are not both in a cover: their parent would cover no spent number
   pub not_both : In x (cover d spent) → In y (cover d spent) → ⊥
@@ -110,18 +101,17 @@ module _ (d : ℕ) (s : Slots) where
       (st.above, st.below, link, k.some, subst (λ (z : Node). may_follow d from b z ≡ true) (sym n) may, subst P (sym k.fields) rest)
 
 read_back : (d : ℕ) (s : Slots) (h : Head) (xs : List Link) (spent : List ℕ) → Laid d s h xs → nodes_of xs ≡ cover d spent → ((n : ℕ) → In n spent → n < h.issued) →
-    file_of d h.generator h.sealer s ≡ sound h xs
+    file_of d h.numbers s ≡ sound h xs
 read_back d s h xs spent l e u =
     let back : (y : Node) → In y (nodes_of xs) → In y (cover d spent) = λ y i. subst (λ (zs : List Node). In y zs) e i in
     let nodes : (y : Node) → In y (nodes_of xs) → IsNode d y = λ y i. ((characterised d spent y).0 (back y i)).0 in
     let o : Ordered d (nodes_of xs) = subst (Ordered d) (sym e) (in_order d spent) in
     let c' = laid_chained d s xs 0 None l.links nodes (λ y i. omega arith) o (λ y i. refl) (λ x y i j t. not_both d spent x y t (back x i) (back y j)) in
     let c : Chained d s 0 None h.first xs = subst (λ (k : ℕ). Chained d s 0 None k xs) (sym l.first) c' in
-    of_sound d h.generator h.sealer s h xs
+    of_sound d h.numbers s h xs
     (record {
       head = ap (head_of d) l.bytes ∙ head_trip.back d h l.fits;
-      generator = refl;
-      sealer = refl;
+      named = refl;
       chained = c;
       nodes = nodes;
       ordered = o;
@@ -134,8 +124,8 @@ read_back d s h xs spent l e u =
 
 pub file_laws : FileLaws
 file_laws = record {
-  exact = λ d g w s h xs. (to_sound d g w s h xs, of_sound d g w s h xs);
-  lacking = λ d g w s n. to_bare d g w s n;
+  exact = λ d n s h xs. (to_sound d n s h xs, of_sound d n s h xs);
+  lacking = to_bare;
   back = read_back;
   found = found_at;
   missing = none_at;

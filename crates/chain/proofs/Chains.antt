@@ -1,10 +1,9 @@
 -- A walk that succeeds, as a chain that stands in the slots; and what holds of every chain.
-use Rattle.std.proofs.Common.{◌≡◌, ℕ, zero, suc, ◌+◌, ◌-◌, ◌^◌, ◌<◌, ◌≤◌, Bool, true, false, cond, ◌&&◌, eqb, ltb, leb, ◌≢◌, List, [], ◌∷◌, ◌++◌, length, get_or, is_some, Some, None, Option, sym, refl, ap, ◌∙◌, subst, inl, inr, ⊎_elim, arith}
+use Rattle.std.proofs.Common.{◌≡◌, ℕ, zero, suc, ◌+◌, ◌-◌, ◌^◌, ◌<◌, ◌≤◌, Bool, true, false, cond, ◌&&◌, ltb, leb, ◌≢◌, List, [], ◌∷◌, ◌++◌, length, get_or, is_some, Some, None, Option, sym, refl, ap, ◌∙◌, subst, inl, inr, ⊎_elim, arith}
 use Rattle.std.proofs.lemmas.Bool.{cases_Bool, and_parts, and_from, leb-true}
-use Rattle.octets.specs.Buffers.{is_blank}
 use Rattle.device.specs.Effects.{Slots}
 use Rattle.layout.specs.declared.NodeFields.{NodeFields}
-use Rattle.layout.specs.Records.{part, is_record, node_fields, node_of}
+use Rattle.layout.specs.Records.{node_fields, node_of}
 use Rattle.tree.specs.declared.Node.{Node}
 use Rattle.tree.specs.Nodes.{IsNode}
 use Rattle.tree.specs.Cover.{In, Ordered, Distinct}
@@ -26,11 +25,7 @@ some_record false x e = e
 
 pub some_node : (d : ℕ) (bs : List ℕ) → is_some (node_of d bs) ≡ true → IsNode d (node_in bs)
 unfolding node_of
-some_node d bs e =
-    let t = some_record (is_record d bs) (node_fields bs) e in
-    let q = and_parts (eqb (get_or bs 0 0) 2) _ t in
-    let r = and_parts (is_blank (part 6 26 bs)) _ q.1 in
-    tested_node d (node_in bs).depth (node_in bs).first r.1
+some_node d bs e = grind (arith, some_record, and_parts, tested_node)
 
 record Split (x : Link) (w : Walk) (xs : List Link) : Type 0 where
   rest : List Link
@@ -41,14 +36,10 @@ split : (x : Link) (w : Walk) (xs : List Link) → consed x w ≡ walked xs → 
 split x (broken i) xs e = absurd (cc)
 split x (walked ys) xs e = record { rest = ys; is = refl; all = cc }
 
-none_left : (xs : List Link) → walked [] ≡ walked xs → xs ≡ []
-none_left [] e = refl
-none_left (x ∷ xs) e = absurd (cc)
-
 module _ (d : ℕ) (s : Slots) where
   pub to_chained : (k from : ℕ) (b : Option Node) (last i : ℕ) (xs : List Link) → walk d k s from b last i ≡ walked xs → Chained d s from b i xs
   unfolding walk
-  to_chained k from b last zero xs e = subst (Chained d s from b zero) (sym (none_left xs e)) refl
+  to_chained k from b last zero xs e = let q : [] ≡ xs = cc in subst (Chained d s from b zero) q refl
   to_chained zero from b last (suc i) xs e = absurd (cc)
   to_chained (suc k) from b last (suc i) xs e = ⊎_elim
       (λ (t : ltb (suc i) (length s) ≡ true). ⊎_elim
@@ -88,14 +79,8 @@ module _ (d : ℕ) (s : Slots) where
 
   pub chained_from : (xs : List Link) (from : ℕ) (b : Option Node) (i : ℕ) → Chained d s from b i xs → (y : Node) → In y (nodes_of xs) → from ≤ y.first
   chained_from [] from b i c y m = absurd m
-  chained_from (x ∷ xs) from b i c y (inl q) =
-      let st = starts from b (node_in (get_or s i [])) c.4 in
-      subst (λ (z : Node). from ≤ z.first) (ap (λ (z : Link). z.node) c.2 ∙ sym q) st
-  chained_from (x ∷ xs) from b i c y (inr m) =
-      let st = starts from b (node_in (get_or s i [])) c.4 in
-      let a = end_after d (node_in (get_or s i [])) in
-      let r = chained_from xs _ _ _ c.5 y m in
-      omega arith
+  chained_from (x ∷ xs) from b i c y (inl q) = grind arith
+  chained_from (x ∷ xs) from b i c y (inr m) = let r = chained_from xs _ _ _ c.5 y m in grind (arith, starts, end_after)
 
   pub chained_order : (xs : List Link) (from : ℕ) (b : Option Node) (i : ℕ) → Chained d s from b i xs → Ordered d (nodes_of xs)
   chained_order [] from b i c = tt
@@ -111,17 +96,13 @@ module _ (d : ℕ) (s : Slots) where
 
   pub chained_slots : (xs : List Link) (from : ℕ) (b : Option Node) (i : ℕ) → Chained d s from b i xs → (j : ℕ) → In j (slots_of xs) → (0 < j) × (j < length s)
   chained_slots [] from b i c j m = absurd m
-  chained_slots (x ∷ xs) from b i c j (inl q) =
-      let e : i ≡ j = ap (λ (z : Link). z.slot) c.2 ∙ sym q in
-      (subst (λ (k : ℕ). 0 < k) e c.0, subst (λ (k : ℕ). k < length s) e c.1)
+  chained_slots (x ∷ xs) from b i c j (inl q) = grind arith
   chained_slots (x ∷ xs) from b i c j (inr m) = chained_slots xs _ _ _ c.5 j m
 
   -- the node in a slot of the chain is a node of the chain
   slot_node : (xs : List Link) (from : ℕ) (b : Option Node) (i : ℕ) → Chained d s from b i xs → (j : ℕ) → In j (slots_of xs) → In (node_in (get_or s j [])) (nodes_of xs)
   slot_node [] from b i c j m = absurd m
-  slot_node (x ∷ xs) from b i c j (inl q) =
-      let e : i ≡ j = ap (λ (z : Link). z.slot) c.2 ∙ sym q in
-      inl (ap (λ (k : ℕ). node_in (get_or s k [])) (sym e) ∙ ap (λ (z : Link). z.node) c.2)
+  slot_node (x ∷ xs) from b i c j (inl q) = grind arith
   slot_node (x ∷ xs) from b i c j (inr m) = inr (slot_node xs _ _ _ c.5 j m)
 
   pub chained_distinct : (xs : List Link) (from : ℕ) (b : Option Node) (i : ℕ) → Chained d s from b i xs → Distinct (slots_of xs)

@@ -1,24 +1,17 @@
 -- What a file that is read is, and which number a file lacks.
-use Rattle.std.proofs.Common.{◌≡◌, ℕ, suc, ◌^◌, ◌<◌, ◌≤◌, Bool, true, false, cond, ◌&&◌, eqb, ltb, List, [], get_or, Some, None, Option, refl, ap, ◌∙◌, subst, ⊎_elim, arith}
-use Rattle.std.proofs.lemmas.Bool.{cases_lt, and_parts, eqb-true, eq-eqb, ltb-true, ltb-false, le-ltb}
+use Rattle.std.proofs.Common.{◌≡◌, ℕ, suc, ◌^◌, ◌<◌, ◌≤◌, Bool, true, false, cond, ◌&&◌, eqb, List, [], get_or, Some, None, Option, refl, subst, ⊎_elim, arith}
+use Rattle.std.proofs.lemmas.Bool.{cases_lt}
 use Rattle.device.specs.Effects.{Slots}
 use Rattle.layout.specs.declared.Head.{Head}
+use Rattle.layout.specs.declared.Numbers.{Numbers}
 use Rattle.layout.specs.Records.{head_of}
 use Rattle.tree.specs.Cover.{Ordered, Reached}
-use Rattle.chain.specs.Reading.{Link, Walk, Walk.broken, Walk.walked, File, File.bad_head, File.uncovered, File.sound, walk, lowest_from, judged, headed, file_of}
+use Rattle.chain.specs.Reading.{Link, Walk, Walk.broken, Walk.walked, File, File.bad_head, File.uncovered, File.sound, walk, lowest_from, judged, bears, headed, file_of}
 use Rattle.chain.specs.Sound.{nodes_of, Lowest, SoundFile, Bare}
 use Rattle.chain.proofs.Chains.{to_chained, from_chained, chained_order, chained_nodes, chained_slots, chained_distinct}
 use Rattle.chain.proofs.Lowness.{lowest_up, lowest_covered, lowest_bare}
 
 -- ---- which way the tests went
-cond_sound : (b : Bool) (m : ℕ) (k h : Head) (ys xs : List Link) → cond b (uncovered m) (sound k ys) ≡ sound h xs → (b ≡ false) × (k ≡ h) × (ys ≡ xs)
-cond_sound true m k h ys xs e = absurd (cc)
-cond_sound false m k h ys xs e = (refl, cc, cc)
-
-cond_bare : (b : Bool) (m n : ℕ) (k : Head) (ys : List Link) → cond b (uncovered m) (sound k ys) ≡ uncovered n → (b ≡ true) × (m ≡ n)
-cond_bare true m n k ys e = (refl, cc)
-cond_bare false m n k ys e = absurd (cc)
-
 head_sound : (b : Bool) (v : File) (h : Head) (xs : List Link) → cond b v bad_head ≡ sound h xs → (b ≡ true) × (v ≡ sound h xs)
 head_sound true v h xs e = (refl, e)
 head_sound false v h xs e = absurd (cc)
@@ -34,13 +27,7 @@ record Judged (d : ℕ) (k h : Head) (w : Walk) (xs : List Link) : Type 0 where
 
 judged_sound : (d : ℕ) (k h : Head) (w : Walk) (xs : List Link) → judged d k w ≡ sound h xs → Judged d k h w xs
 judged_sound d k h (broken i) xs e = absurd (cc)
-judged_sound d k h (walked ys) xs e =
-    let p = cond_sound (ltb (lowest_from d k.issued ys) (2 ^ d)) (lowest_from d k.issued ys) k h ys xs e in
-    record {
-      same = p.1;
-      walks = ap walked p.2;
-      full = subst (λ (zs : List Link). 2 ^ d ≤ lowest_from d k.issued zs) p.2 (ltb-false _ _ p.0);
-    }
+judged_sound d k h (walked ys) xs e = grind arith
 
 record Lacks (d : ℕ) (k : Head) (w : Walk) (n : ℕ) : Type 0 where
   links : List Link
@@ -50,20 +37,20 @@ record Lacks (d : ℕ) (k : Head) (w : Walk) (n : ℕ) : Type 0 where
 
 judged_bare : (d : ℕ) (k : Head) (w : Walk) (n : ℕ) → judged d k w ≡ uncovered n → Lacks d k w n
 judged_bare d k (broken i) n e = absurd (cc)
-judged_bare d k (walked ys) n e =
-    let p = cond_bare (ltb (lowest_from d k.issued ys) (2 ^ d)) (lowest_from d k.issued ys) n k ys e in
-    record { links = ys; walks = refl; lowest = p.1; number = ltb-true _ _ p.0 }
+judged_bare d k (walked ys) n e = grind arith
 
 -- ---- a sound file
-module _ (d g w : ℕ) (s : Slots) where
-  made : (h : Head) (xs : List Link) → head_of d (get_or s 0 []) ≡ Some h → h.generator ≡ g → h.sealer ≡ w →
-      walk d (suc (2 ^ d)) s 0 None 0 h.first ≡ walked xs → 2 ^ d ≤ lowest_from d h.issued xs → SoundFile d g w s h xs
-  made h xs e a b k f =
+same_numbers : (a b : Numbers) → (eqb a.generator b.generator && eqb a.sealer b.sealer) ≡ true → a ≡ b
+same_numbers a b e = grind arith
+
+module _ (d : ℕ) (numbers : Numbers) (s : Slots) where
+  made : (h : Head) (xs : List Link) → head_of d (get_or s 0 []) ≡ Some h → h.numbers ≡ numbers →
+      walk d (suc (2 ^ d)) s 0 None 0 h.first ≡ walked xs → 2 ^ d ≤ lowest_from d h.issued xs → SoundFile d numbers s h xs
+  made h xs e a k f =
       let c = to_chained d s (suc (2 ^ d)) 0 None 0 h.first xs k in
       record {
         head = e;
-        generator = a;
-        sealer = b;
+        named = a;
         chained = c;
         nodes = chained_nodes d s xs 0 None h.first c;
         ordered = chained_order d s xs 0 None h.first c;
@@ -72,16 +59,15 @@ module _ (d g w : ℕ) (s : Slots) where
         unissued = λ n l u. lowest_covered d h.issued xs n l (omega arith);
       }
 
-  from_head : (o : Option Head) (h : Head) (xs : List Link) → head_of d (get_or s 0 []) ≡ o → headed d g w s o ≡ sound h xs → SoundFile d g w s h xs
+  from_head : (o : Option Head) (h : Head) (xs : List Link) → head_of d (get_or s 0 []) ≡ o → headed d numbers s o ≡ sound h xs → SoundFile d numbers s h xs
   from_head None h xs q e = absurd (cc)
   from_head (Some k) h xs q e =
-      let p = head_sound (eqb k.generator g && eqb k.sealer w) (judged d k (walk d (suc (2 ^ d)) s 0 None 0 k.first)) h xs e in
-      let t = and_parts (eqb k.generator g) _ p.0 in
+      let p = head_sound (bears k numbers) (judged d k (walk d (suc (2 ^ d)) s 0 None 0 k.first)) h xs e in
       let j = judged_sound d k h (walk d (suc (2 ^ d)) s 0 None 0 k.first) xs p.1 in
-      let P : Head → Type 0 = λ z. SoundFile d g w s z xs in
-      subst P j.same (made k xs q (eqb-true _ _ t.0) (eqb-true _ _ t.1) j.walks j.full)
+      let P : Head → Type 0 = λ z. SoundFile d numbers s z xs in
+      subst P j.same (made k xs q (same_numbers k.numbers numbers p.0) j.walks j.full)
 
-  pub to_sound : (h : Head) (xs : List Link) → file_of d g w s ≡ sound h xs → SoundFile d g w s h xs
+  pub to_sound : (h : Head) (xs : List Link) → file_of d numbers s ≡ sound h xs → SoundFile d numbers s h xs
   unfolding file_of
   to_sound h xs e = from_head (head_of d (get_or s 0 [])) h xs refl e
 
@@ -94,20 +80,15 @@ module _ (d g w : ℕ) (s : Slots) where
       (λ (l : 2 ^ d ≤ lowest_from d h.issued xs). l)
       (cases_lt (lowest_from d h.issued xs) (2 ^ d))
 
-  pub of_sound : (h : Head) (xs : List Link) → SoundFile d g w s h xs → file_of d g w s ≡ sound h xs
+  pub of_sound : (h : Head) (xs : List Link) → SoundFile d numbers s h xs → file_of d numbers s ≡ sound h xs
   unfolding file_of
-  of_sound h xs f =
-      let a : eqb h.generator g ≡ true = eq-eqb _ _ f.generator in
-      let b : eqb h.sealer w ≡ true = eq-eqb _ _ f.sealer in
-      let k : walk d (suc (2 ^ d)) s 0 None 0 h.first ≡ walked xs = from_chained d s (suc (2 ^ d)) 0 None 0 h.first xs (omega arith) (omega arith) f.chained in
-      let l : ltb (lowest_from d h.issued xs) (2 ^ d) ≡ false = le-ltb _ _ (filled h xs f.ordered f.unissued) in
-      ap (headed d g w s) f.head ∙ rw (a, b, k, l)
+  of_sound h xs f = grind (arith, from_chained, filled)
 
   -- ---- a file that lacks a number
-  bare_head : (o : Option Head) (n : ℕ) → head_of d (get_or s 0 []) ≡ o → headed d g w s o ≡ uncovered n → Bare d s n
+  bare_head : (o : Option Head) (n : ℕ) → head_of d (get_or s 0 []) ≡ o → headed d numbers s o ≡ uncovered n → Bare d s n
   bare_head None n q e = absurd (cc)
   bare_head (Some k) n q e =
-      let p = head_bare (eqb k.generator g && eqb k.sealer w) (judged d k (walk d (suc (2 ^ d)) s 0 None 0 k.first)) n e in
+      let p = head_bare (bears k numbers) (judged d k (walk d (suc (2 ^ d)) s 0 None 0 k.first)) n e in
       let j = judged_bare d k (walk d (suc (2 ^ d)) s 0 None 0 k.first) n p in
       let xs = j.links in
       let c = to_chained d s (suc (2 ^ d)) 0 None 0 k.first xs j.walks in
@@ -126,6 +107,6 @@ module _ (d g w : ℕ) (s : Slots) where
         });
       }
 
-  pub to_bare : (n : ℕ) → file_of d g w s ≡ uncovered n → Bare d s n
+  pub to_bare : (n : ℕ) → file_of d numbers s ≡ uncovered n → Bare d s n
   unfolding file_of
   to_bare n e = bare_head (head_of d (get_or s 0 [])) n refl e

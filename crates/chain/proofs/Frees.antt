@@ -1,7 +1,7 @@
 -- The slots without a mark are those off the chain.
 use Rattle.std.proofs.Common.{◌≡◌, ℕ, zero, suc, ◌+◌, ◌-◌, ◌<◌, ◌≤◌, Bool, true, false, ◌⊎◌, List, [], ◌∷◌, length, sym, refl, ap, ◌∙◌, subst, inl, inr, ⊎_elim, arith}
 use Rattle.std.proofs.lemmas.List.{length-replicate}
-use Rattle.std.proofs.lemmas.Bool.{cases_Bool, cases_eq, both_ways}
+use Rattle.std.proofs.lemmas.Bool.{cases_Bool, cases_eq}
 use Rattle.octets.specs.Buffers.{zeros}
 use Rattle.marks.specs.Rows.{room_of, is_marked, with_mark, listed, unmarked}
 use Rattle.marks.proofs.Laws.{mark_laws}
@@ -11,30 +11,29 @@ use Rattle.chain.specs.Listing.{marked_all}
 use Rattle.chain.specs.Sound.{FreeAre, FreeCount}
 
 -- ---- marks along a chain
-module _ (count i : ℕ) where
-  marked_stays : (xs : List Link) (row : List ℕ) → room_of count ≤ length row → ((j : ℕ) → In j (slots_of xs) → j < count) → is_marked row i ≡ true → is_marked (marked_all row xs) i ≡ true
-  marked_stays [] row r f e = e
-  marked_stays (x ∷ xs) row r f e =
+module _ (count i : ℕ) (lt : i < count) where
+  marked_stays : (xs : List Link) (row : List ℕ) → room_of count ≤ length row → is_marked row i ≡ true → is_marked (marked_all row xs) i ≡ true
+  marked_stays [] row r e = e
+  marked_stays (x ∷ xs) row r e =
       let long : room_of count ≤ length (with_mark row x.slot) = subst (λ (k : ℕ). room_of count ≤ k) (sym (mark_laws.long row x.slot)) r in
-      marked_stays xs (with_mark row x.slot) long (λ j m. f j (inr m))
+      marked_stays xs (with_mark row x.slot) long
       (⊎_elim
-      (λ (q : i ≡ x.slot). subst (λ (k : ℕ). is_marked (with_mark row x.slot) k ≡ true) (sym q) (mark_laws.same row count x.slot r (f x.slot (inl refl))))
+      (λ (q : i ≡ x.slot). subst (λ (k : ℕ). is_marked (with_mark row k) i ≡ true) q (mark_laws.same row count i r lt))
       (λ (q : i ≡ x.slot → ⊥). mark_laws.other row x.slot i q ∙ e)
       (cases_eq i x.slot))
 
-  pub marked_in : (xs : List Link) (row : List ℕ) → room_of count ≤ length row → ((j : ℕ) → In j (slots_of xs) → j < count) → In i (slots_of xs) → is_marked (marked_all row xs) i ≡ true
-  marked_in [] row r f m = absurd m
-  marked_in (x ∷ xs) row r f (inl q) =
+  pub marked_in : (xs : List Link) (row : List ℕ) → room_of count ≤ length row → In i (slots_of xs) → is_marked (marked_all row xs) i ≡ true
+  marked_in [] row r m = absurd m
+  marked_in (x ∷ xs) row r m =
       let long : room_of count ≤ length (with_mark row x.slot) = subst (λ (k : ℕ). room_of count ≤ k) (sym (mark_laws.long row x.slot)) r in
-      marked_stays xs (with_mark row x.slot) long (λ j m. f j (inr m))
-      (subst (λ (k : ℕ). is_marked (with_mark row x.slot) k ≡ true) (sym q) (mark_laws.same row count x.slot r (f x.slot (inl refl))))
-  marked_in (x ∷ xs) row r f (inr m) =
-      let long : room_of count ≤ length (with_mark row x.slot) = subst (λ (k : ℕ). room_of count ≤ k) (sym (mark_laws.long row x.slot)) r in
-      marked_in xs (with_mark row x.slot) long (λ j n. f j (inr n)) m
+      elim m [
+        | inl q ↦ marked_stays xs (with_mark row x.slot) long (subst (λ (k : ℕ). is_marked (with_mark row k) i ≡ true) q (mark_laws.same row count i r lt))
+        | inr n ↦ marked_in xs (with_mark row x.slot) long n
+      ]
 
-  pub unmarked_off : (xs : List Link) (row : List ℕ) → (In i (slots_of xs) → ⊥) → is_marked row i ≡ false → is_marked (marked_all row xs) i ≡ false
-  unmarked_off [] row f e = e
-  unmarked_off (x ∷ xs) row f e = unmarked_off xs (with_mark row x.slot) (λ m. f (inr m)) (mark_laws.other row x.slot i (λ q. f (inl q)) ∙ e)
+pub unmarked_off : (i : ℕ) (xs : List Link) (row : List ℕ) → (In i (slots_of xs) → ⊥) → is_marked row i ≡ false → is_marked (marked_all row xs) i ≡ false
+unmarked_off i [] row f e = e
+unmarked_off i (x ∷ xs) row f e = unmarked_off i xs (with_mark row x.slot) (λ m. f (inr m)) (mark_laws.other row x.slot i (λ q. f (inl q)) ∙ e)
 
 -- ---- the list of the slots without a mark
 pub of_unmarked : (n : ℕ) (row : List ℕ) (from i : ℕ) → In i (unmarked row from n) → (from ≤ i) × (i < from + n) × (is_marked row i ≡ false)
@@ -61,22 +60,12 @@ in_unmarked (suc n) row from i l u e = ⊎_elim
     (cases_eq i from)
 
 pub free_are : FreeAre
-free_are m count from xs i r f =
-    let row = zeros m in
-    let long : room_of count ≤ length row = subst (λ (k : ℕ). room_of count ≤ k) (sym (length-replicate m 0)) r in (
-      λ k.
-          let u = of_unmarked (count - from) (marked_all row xs) from i k in
-          (u.0, omega (arith, u.0, u.1), λ n. both_ways _ u.2 (marked_in count i xs row long f n)),
-      λ t. in_unmarked (count - from) (marked_all row xs) from i t.0 (omega (arith, t.0, t.1)) (unmarked_off count i xs row t.2 (mark_laws.none m i)),
-    )
+free_are m count from xs i r f = grind (arith, length-replicate, of_unmarked, marked_in, in_unmarked, unmarked_off, mark_laws)
 
 -- ---- how many there are
 pub same_unmarked : (n from : ℕ) (row other : List ℕ) → ((k : ℕ) → from ≤ k → is_marked row k ≡ is_marked other k) → unmarked row from n ≡ unmarked other from n
 same_unmarked zero from row other f = refl
-same_unmarked (suc n) from row other f =
-    let e : is_marked row from ≡ is_marked other from = f from (omega arith) in
-    let r = same_unmarked n (suc from) row other (λ k l. f k (omega arith)) in
-    ap (λ (b : Bool). listed b from (unmarked row (suc from) n)) e ∙ ap (listed (is_marked other from) from) r
+same_unmarked (suc n) from row other f = let r = same_unmarked n (suc from) row other (λ k l. f k (omega arith)) in grind arith
 
 -- two lists of which one is longer by one stay so with one more slot before them
 pub one_less : (b : Bool) (from : ℕ) (xs ys : List ℕ) → length xs + 1 ≡ length ys → length (listed b from xs) + 1 ≡ length (listed b from ys)
@@ -117,6 +106,4 @@ sum_unmarked count (x ∷ xs) row r f d e =
     omega arith
 
 pub free_count_is : FreeCount
-free_count_is m count xs r f d =
-    let long : room_of count ≤ length (zeros m) = subst (λ (k : ℕ). room_of count ≤ k) (sym (length-replicate m 0)) r in
-    sum_unmarked count xs (zeros m) long f d (λ j i. mark_laws.none m j) ∙ all_unmarked (count - 1) 1 m
+free_count_is m count xs r f d = grind (arith, length-replicate, sum_unmarked, mark_laws, all_unmarked)

@@ -1,10 +1,10 @@
 -- What holds while the code walks along the chain.
-use Rattle.std.proofs.Common.{◌≡◌, ℕ, suc, ◌+◌, ◌-◌, ◌^◌, ◌<◌, ◌≤◌, Bool, true, false, cond, ltb, leb, ◌≢◌, List, [], length, get_or, is_some, Some, None, Ok, Err, Option, Result, sym, refl, ap, ◌∙◌, subst, ap₂, arith}
+use Rattle.std.proofs.Common.{◌≡◌, ℕ, suc, ◌+◌, ◌-◌, ◌^◌, ◌<◌, ◌≤◌, true, false, ltb, leb, ◌≢◌, List, [], length, get_or, is_some, Some, None, Ok, Err, Option, Result, sym, refl, ap, ◌∙◌, subst, subst₂, ap₂, arith}
 use Rattle.std.proofs.lemmas.Bool.{and_left, and_right, and_parts, and_from, leb-true, lt-ltb}
 use Rattle.fault.specs.declared.Halt.{Halt}
 use Rattle.fault.specs.Faults.{placed}
 use Rattle.refusal.specs.declared.Refusal.TheVariants.{BadLink}
-use Rattle.device.specs.Effects.{Slots}
+use Rattle.device.specs.Effects.{Slots, State}
 use Rattle.layout.specs.declared.NodeFields.{NodeFields}
 use Rattle.layout.specs.Records.{node_fields, node_of}
 use Rattle.marks.specs.Rows.{with_mark}
@@ -13,7 +13,7 @@ use Rattle.tree.specs.Nodes.{node_at, IsNode}
 use Rattle.chain.specs.declared.Found.{Found}
 use Rattle.chain.specs.declared.Tally.{Tally}
 use Rattle.chain.specs.Reading.{Link, Walk, Walk.broken, Walk.walked, consed, node_in, link_at, end_of, may_follow, walk}
-use Rattle.chain.specs.Listing.{is_under, first_slot, between, find_in, or_else, counted, tally_of, row_of}
+use Rattle.chain.specs.Listing.{first_slot, or_else, counted, tally_of, row_of}
 use Rattle.chain.specs.Outcome.{record_named, record_read}
 use Rattle.chain.specs.Steps.{Preceding}
 use Rattle.chain.proofs.Order.{end_within, end_after, tested_node}
@@ -41,11 +41,6 @@ begun d s n next t row e = record {
   rows = refl;
 }
 
-found_more : (o : Option Found) (b : Bool) (f : Found) (p : Option Found) → or_else o (cond b (Some f) p) ≡ or_else (or_else o (cond b (Some f) None)) p
-found_more (Some g) b f p = refl
-found_more None true f p = refl
-found_more None false f p = refl
-
 found_all : (o : Option Found) → or_else o None ≡ o
 found_all (Some g) = refl
 found_all None = refl
@@ -58,14 +53,7 @@ tally_eq a b l o p e f = ap₂ (λ (x : ℕ) (y : Option Found). record { length
 tally_more : (d n : ℕ) (t : Tally) (last m : ℕ) (x : Link) (w : Walk) → ((xs : List Link) → w ≡ walked xs → m ≡ first_slot xs) →
     tally_of d n t last (consed x w) ≡ tally_of d n (counted d n t (record { slot = x.slot; before = last; node = x.node; next = m })) x.slot w
 tally_more d n t last m x (broken i) h = refl
-tally_more d n t last m x (walked xs) h =
-    let q : first_slot xs ≡ m = sym (h xs refl) in
-    let f : between last x xs ≡ record { slot = x.slot; before = last; node = x.node; next = m } =
-    ap (λ (k : ℕ). record { slot = x.slot; before = last; node = x.node; next = k }) q in
-    ap Ok
-    (tally_eq _ _ _ _ _ (omega arith)
-    (ap (λ (y : Found). or_else t.found (cond (is_under d x.node n) (Some y) (find_in d n x.slot xs))) f
-    ∙ found_more t.found (is_under d x.node n) _ (find_in d n x.slot xs)))
+tally_more d n t last m x (walked xs) h = grind arith
 
 row_more : (row : List ℕ) (x : Link) (w : Walk) → row_of row (consed x w) ≡ row_of (with_mark row x.slot) w
 row_more row x (broken i) = refl
@@ -99,20 +87,19 @@ module _ {d : ℕ} {s : Slots} {n : ℕ} {T : Result Tally Halt} {R : List ℕ} 
   pub spoilt : next ≢ 0 → next < length s → node_of d (get_or s next []) ≡ None → T ≡ Err (placed BadLink next)
   spoilt ne h e = stopped next (walk_bad d s (g.fuel - 1) from before last next ne h (and_left _ _ (ap is_some e)))
 
-  pub misplaced : (f : NodeFields) → next ≢ 0 → next < length s → node_of d (get_or s next []) ≡ Some f → may_follow d from before (node_at f.depth f.first) ≡ false → T ≡ Err (placed BadLink next)
-  misplaced f ne h e m =
+  pub misplaced : (f : NodeFields) {y : Node} → y ≡ node_at f.depth f.first → next ≢ 0 → next < length s → node_of d (get_or s next []) ≡ Some f → may_follow d from before y ≡ false → T ≡ Err (placed BadLink next)
+  misplaced f q ne h e m =
       let l = laid d (get_or s next []) f e in
       stopped next (walk_bad d s (g.fuel - 1) from before last next ne h
-      (and_right _ _ (ap (λ (z : NodeFields). may_follow d from before (node_at z.depth z.first)) l.fields ∙ m)))
+      (and_right _ _ (ap (λ (z : NodeFields). may_follow d from before (node_at z.depth z.first)) l.fields ∙ ap (may_follow d from before) (sym q) ∙ m)))
 
-  pub onward : (f : NodeFields) → next ≢ 0 → next < length s → node_of d (get_or s next []) ≡ Some f → may_follow d from before (node_at f.depth f.first) ≡ true →
-      Going d s n T R (end_of d (node_at f.depth f.first)) (Some (node_at f.depth f.first)) next f.next
-      (counted d n t (record { slot = next; before = last; node = node_at f.depth f.first; next = f.next })) (with_mark row next)
-  onward f ne h e m =
+  pub onward : (f : NodeFields) {y : Node} → y ≡ node_at f.depth f.first → next ≢ 0 → next < length s → node_of d (get_or s next []) ≡ Some f → may_follow d from before y ≡ true →
+      Going d s n T R (end_of d y) (Some y) next f.next (counted d n t (record { slot = next; before = last; node = y; next = f.next })) (with_mark row next)
+  onward f {y = y} q ne h e m =
       let bs : List ℕ = get_or s next [] in
       let l = laid d bs f e in
       let x = node_in bs in
-      let may : may_follow d from before x ≡ true = ap (λ (z : NodeFields). may_follow d from before (node_at z.depth z.first)) l.fields ∙ m in
+      let may : may_follow d from before x ≡ true = ap (λ (z : NodeFields). may_follow d from before (node_at z.depth z.first)) l.fields ∙ ap (may_follow d from before) (sym q) ∙ m in
       let start : from ≤ x.first = leb-true _ _ (and_parts (leb from x.first) _ may).0 in
       let i : IsNode d x = tested_node d x.depth x.first l.here in
       let w : Walk = walk d (g.fuel - 1) s (end_of d x) (Some x) next (node_fields bs).next in
@@ -120,10 +107,10 @@ module _ {d : ℕ} {s : Slots} {n : ℕ} {T : Result Tally Halt} {R : List ℕ} 
       ap (λ (k : ℕ). walk d k s from before last next) unused
       ∙ walk_on d s (g.fuel - 1) from before last next ne h (and_from _ _ l.some may) in
       let a = end_after d x in
-      let P : NodeFields → Type 0 = λ z.
-      Going d s n T R (end_of d (node_at z.depth z.first)) (Some (node_at z.depth z.first)) next z.next
-      (counted d n t (record { slot = next; before = last; node = node_at z.depth z.first; next = z.next })) (with_mark row next) in
-      subst P l.fields
+      let same : x ≡ y = ap (λ (z : NodeFields). node_at z.depth z.first) l.fields ∙ sym q in
+      let P : Node → ℕ → Type 0 = λ z k.
+      Going d s n T R (end_of d z) (Some z) next k (counted d n t (record { slot = next; before = last; node = z; next = k })) (with_mark row next) in
+      subst₂ P same (ap (λ (z : NodeFields). z.next) l.fields)
       (record {
         fuel = g.fuel - 1;
         within = end_within d x i;
@@ -142,39 +129,32 @@ pub renamed : {d : ℕ} {s : Slots} {n : ℕ} {T : Result Tally Halt} {R : List 
 renamed from' t' row' e f h g = rw (e, f, h) g
 
 -- ---- what a read of a record tells
-record_none : (i : ℕ) (o : Option NodeFields) (h : Halt) → Err h ≡ record_named i o → (o ≡ None) × (h ≡ placed BadLink i)
-record_none i None h e = (refl, cc)
-record_none i (Some x) h e = absurd (cc)
-
 record_some : (i : ℕ) (o : Option NodeFields) (f : NodeFields) → Ok f ≡ record_named i o → o ≡ Some f
 record_some i None f e = absurd (cc)
 record_some i (Some x) f e = cc
 
-pub record_bad : (d : ℕ) (s : Slots) (on : Bool) (i : ℕ) (h : Halt) → on ≡ true → i < length s → Err h ≡ record_read d s on i →
-    (node_of d (get_or s i []) ≡ None) × (h ≡ placed BadLink i)
-record_bad d s on i h p l e =
-    let t : ltb i (length s) ≡ true = lt-ltb _ _ l in
-    record_none i (node_of d (get_or s i [])) h (rw (t, p) at e)
+pub record_bad : (d : ℕ) (s : State) (i : ℕ) (h : Halt) → s.power ≡ true → i < length s.slots → Err h ≡ record_read d s i →
+    (node_of d (get_or s.slots i []) ≡ None) × (h ≡ placed BadLink i)
+record_bad d s i h p l e = grind arith
 
-record_good : (d : ℕ) (s : Slots) (on : Bool) (i : ℕ) (f : NodeFields) → on ≡ true → i < length s → Ok f ≡ record_read d s on i → node_of d (get_or s i []) ≡ Some f
-record_good d s on i f p l e =
-    let t : ltb i (length s) ≡ true = lt-ltb _ _ l in
-    record_some i (node_of d (get_or s i [])) f (rw (t, p) at e)
+record_good : (d : ℕ) (s : State) (i : ℕ) (f : NodeFields) → s.power ≡ true → i < length s.slots → Ok f ≡ record_read d s i → node_of d (get_or s.slots i []) ≡ Some f
+record_good d s i f p l e =
+    let t : ltb i (length s.slots) ≡ true = lt-ltb _ _ l in
+    record_some i (node_of d (get_or s.slots i [])) f (rw (t, p) at e)
 
--- a record that is read where the walk stands
-pub record Good (d : ℕ) (s : Slots) (i : ℕ) (f : NodeFields) : Type 0 where
+-- a record that is read where the walk stands, and its node
+pub record Good (d : ℕ) (s : Slots) (i : ℕ) (f : NodeFields) (x : Node) : Type 0 where
   pub here : i < length s
   pub is : node_of d (get_or s i []) ≡ Some f
-  pub node : IsNode d (node_at f.depth f.first)
+  pub node : IsNode d x
 
-pub good : (d : ℕ) (s : Slots) (on : Bool) (i n : ℕ) (f : NodeFields) → n ≡ length s → i < n → on ≡ true → Ok f ≡ record_read d s on i → Good d s i f
-good d s on i n f e l p r =
-    let here : i < length s = subst (λ (k : ℕ). i < k) e l in
-    let is = record_good d s on i f p here r in
-    record { here = here; is = is; node = tested_node d f.depth f.first (laid d (get_or s i []) f is).node }
+pub good : (d : ℕ) (s : State) (i n : ℕ) (f : NodeFields) {x : Node} → x ≡ node_at f.depth f.first → n ≡ length s.slots → i < n → s.power ≡ true →
+    Ok f ≡ record_read d s i → Good d s.slots i f x
+good d s i n f q e l p r =
+    let here : i < length s.slots = subst (λ (k : ℕ). i < k) e l in
+    let is = record_good d s i f p here r in
+    record { here = here; is = is; node = subst (IsNode d) (sym q) (tested_node d f.depth f.first (laid d (get_or s.slots i []) f is).node) }
 
 -- a walk that ends with a refusal gives no chain
 pub no_chain : (d n : ℕ) (t : Tally) (b : ℕ) (w : Walk) (h : Halt) (xs : List Link) (a c : List ℕ) → Err h ≡ tally_of d n t b w → w ≡ walked xs → a ≡ c
-no_chain d n t b w h xs a c e q =
-    let f : Err h ≡ tally_of d n t b (walked xs) = e ∙ ap (tally_of d n t b) q in
-    absurd (cc)
+no_chain d n t b w h xs a c e q = grind arith

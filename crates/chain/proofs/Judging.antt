@@ -1,18 +1,19 @@
 -- From the walk to what reading comes to.
-use Rattle.std.proofs.Common.{◌≡◌, ℕ, suc, ◌+◌, ◌^◌, Bool, true, false, cond, ◌&&◌, eqb, ltb, List, [], length, get_or, Some, None, Ok, Err, Option, Result, sym, refl, ap, ◌∙◌, ⊎_elim, arith}
+use Rattle.std.proofs.Common.{◌≡◌, ℕ, ◌+◌, ◌^◌, Bool, true, false, cond, ltb, List, [], length, get_or, Some, None, Ok, Err, Option, Result, sym, refl, ap, ◌∙◌, ⊎_elim, arith}
 use Rattle.std.specs.Option.{unwrap_or}
 use Rattle.std.specs.Result.{is_err}
 use Rattle.std.proofs.lemmas.Bool.{cases_Bool}
 use Rattle.refusal.specs.declared.Refusal.TheVariants.{BadHead, Uncovered}
 use Rattle.fault.specs.declared.Halt.{Halt}
 use Rattle.fault.specs.Faults.{plainly, placed}
-use Rattle.device.specs.Effects.{Slots}
+use Rattle.device.specs.Effects.{Slots, State}
 use Rattle.layout.specs.declared.Head.{Head}
+use Rattle.layout.specs.declared.Numbers.{Numbers}
 use Rattle.layout.specs.Records.{head_of}
 use Rattle.marks.specs.Rows.{room_of}
 use Rattle.chain.specs.declared.Survey.{Survey}
 use Rattle.chain.specs.declared.Tally.{Tally}
-use Rattle.chain.specs.Reading.{Link, Walk, Walk.broken, Walk.walked, File, walk, lowest_from, judged, headed, file_of}
+use Rattle.chain.specs.Reading.{Link, Walk, Walk.broken, Walk.walked, File, lowest_from, judged, bears, headed, file_of}
 use Rattle.octets.specs.Buffers.{zeros}
 use Rattle.chain.specs.Listing.{find_in, tally_of, none_yet, marked_all}
 use Rattle.chain.specs.Outcome.{Reading, Reading.declined, Reading.read, judged_as, chain_of, reading_of, answer_of, marks_of, head_named, head_read}
@@ -54,42 +55,27 @@ test_err : (b : Bool) (k : Head) (f : Halt) (v : File) → Err f ≡ cond b (Ok 
 test_err true k f v e = absurd (cc)
 test_err false k f v e = cc
 
-named_err : (d g w : ℕ) (s : Slots) (o : Option Head) (f : Halt) → Err f ≡ head_named g w o → judged_as (headed d g w s o) ≡ declined f
-named_err d g w s None f e = cc
-named_err d g w s (Some k) f e = test_err (eqb k.generator g && eqb k.sealer w) k f _ e
+named_err : (d : ℕ) (numbers : Numbers) (s : Slots) (o : Option Head) (f : Halt) → Err f ≡ head_named numbers o → judged_as (headed d numbers s o) ≡ declined f
+named_err d numbers s None f e = cc
+named_err d numbers s (Some k) f e = test_err (bears k numbers) k f _ e
 
-pub head_err : (d g w m : ℕ) (s : Slots) (on : Bool) (f : Halt) → ltb m (room_of (length s)) ≡ false → Err f ≡ head_read d g w s on → reading_of d g w m s on ≡ declined f
+pub head_err : (d : ℕ) (numbers : Numbers) (m : ℕ) (s : State) (f : Halt) → ltb m (room_of (length s.slots)) ≡ false → Err f ≡ head_read d numbers s → reading_of d numbers m s ≡ declined f
 unfolding file_of
-head_err d g w m s on f r e = ⊎_elim
-    (λ (t : ltb 0 (length s) ≡ true). ⊎_elim
-    (λ (p : on ≡ true). rw (r, t, p) (named_err d g w s (head_of d (get_or s 0 [])) f (rw (t, p) at e)))
-    (λ (p : on ≡ false). let q = rw (t, p) at e in rw (r, t, p) (ap declined (sym (err_is q))))
-    (cases_Bool on))
-    (λ (t : ltb 0 (length s) ≡ false). let q = rw t at e in rw (r, t) (ap declined (sym (err_is q))))
-    (cases_Bool (ltb 0 (length s)))
+head_err d numbers m s f r e = ⊎_elim
+    (λ (t : ltb 0 (length s.slots) ≡ true). ⊎_elim
+    (λ (p : s.power ≡ true). rw (r, t, p) (named_err d numbers s.slots (head_of d (get_or s.slots 0 [])) f (rw (t, p) at e)))
+    (λ (p : s.power ≡ false). let q = rw (t, p) at e in rw (r, t, p) (ap declined (sym (err_is q))))
+    (cases_Bool s.power))
+    (λ (t : ltb 0 (length s.slots) ≡ false). let q = rw t at e in rw (r, t) (ap declined (sym (err_is q))))
+    (cases_Bool (ltb 0 (length s.slots)))
   where
     err_is : {x y : Halt} → ◌≡◌ {A = Result Head Halt} (Err x) (Err y) → x ≡ y
     err_is e = cc
 
-test_ok : (d : ℕ) (s : Slots) (b : Bool) (k h : Head) → Ok h ≡ cond b (Ok k) (Err (plainly BadHead)) →
-    judged_as (cond b (judged d k (walk d (suc (2 ^ d)) s 0 None 0 k.first)) File.bad_head) ≡ chain_of d h s
-test_ok d s true k h e = let q : k ≡ h = cc in ap (λ (x : Head). chain_of d x s) q
-test_ok d s false k h e = absurd (cc)
-
-named_ok : (d g w : ℕ) (s : Slots) (o : Option Head) (h : Head) → Ok h ≡ head_named g w o → judged_as (headed d g w s o) ≡ chain_of d h s
-named_ok d g w s None h e = absurd (cc)
-named_ok d g w s (Some k) h e = test_ok d s (eqb k.generator g && eqb k.sealer w) k h e
-
-pub head_ok : (d g w m : ℕ) (s : Slots) (on : Bool) (h : Head) → ltb m (room_of (length s)) ≡ false → Ok h ≡ head_read d g w s on →
-    (on ≡ true) × (reading_of d g w m s on ≡ chain_of d h s)
+pub head_ok : (d : ℕ) (numbers : Numbers) (m : ℕ) (s : State) (h : Head) → ltb m (room_of (length s.slots)) ≡ false → Ok h ≡ head_read d numbers s →
+    (s.power ≡ true) × (reading_of d numbers m s ≡ chain_of d h s.slots)
 unfolding file_of
-head_ok d g w m s on h r e = ⊎_elim
-    (λ (t : ltb 0 (length s) ≡ true). ⊎_elim
-    (λ (p : on ≡ true). (p, rw (r, t, p) (named_ok d g w s (head_of d (get_or s 0 [])) h (rw (t, p) at e))))
-    (λ (p : on ≡ false). let q = rw (t, p) at e in absurd (cc))
-    (cases_Bool on))
-    (λ (t : ltb 0 (length s) ≡ false). let q = rw t at e in absurd (cc))
-    (cases_Bool (ltb 0 (length s)))
+head_ok d numbers m s h r e = grind arith
 
 -- ---- the number asked for
 asked_through : (d m : ℕ) (o : Option ℕ) (b : Bool) (h : Head) (xs : List Link) →

@@ -1,4 +1,5 @@
 pub mod Order
+pub mod Standing
 pub mod Walks
 pub mod Going
 pub mod Judging

@@ -1,6 +1,6 @@
 -- The lowest number under no record.
-use Rattle.std.proofs.Common.{◌≡◌, ℕ, ◌<◌, ◌≤◌, max, Bool, true, false, cond, leb, List, [], ◌∷◌, sym, refl, ap, ◌∙◌, subst, inl, inr, ⊎_elim, arith}
-use Rattle.std.proofs.lemmas.Bool.{cases_Bool, cases_lt, leb-true, leb-false}
+use Rattle.std.proofs.Common.{◌≡◌, ℕ, ◌<◌, ◌≤◌, max, cond, leb, List, [], ◌∷◌, refl, ap, ◌∙◌, subst, inl, inr, ⊎_elim, arith}
+use Rattle.std.proofs.lemmas.Bool.{cases_lt}
 use Rattle.tree.specs.declared.Node.{Node}
 use Rattle.tree.specs.Nodes.{Covers}
 use Rattle.tree.specs.Cover.{In, Ordered, Reached}
@@ -13,10 +13,7 @@ abbrev step : ℕ → ℕ → Node → ℕ
 step d m x = cond (leb x.first m) (max m (end_of d x)) m
 
 step_cases : (d m : ℕ) (x : Node) (P : ℕ → Type 0) → (x.first ≤ m → P (max m (end_of d x))) → (m < x.first → P m) → P (step d m x)
-step_cases d m x P f g = ⊎_elim
-    (λ (t : leb x.first m ≡ true). subst P (sym (ap (λ (b : Bool). cond b (max m (end_of d x)) m) t)) (f (leb-true _ _ t)))
-    (λ (t : leb x.first m ≡ false). subst P (sym (ap (λ (b : Bool). cond b (max m (end_of d x)) m) t)) (g (leb-false _ _ t)))
-    (cases_Bool (leb x.first m))
+step_cases d m x P f g = grind arith
 
 step_up : (d m : ℕ) (x : Node) → m ≤ step d m x
 step_up d m x = step_cases d m x (λ k. m ≤ k) (λ h. omega arith) (λ h. omega arith)

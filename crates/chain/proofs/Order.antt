@@ -1,6 +1,6 @@
 -- The order along the chain, as the code tests it.
-use Rattle.std.proofs.Common.{◌≡◌, ℕ, ◌-◌, ◌*◌, ◌%◌, ◌^◌, ◌<◌, ◌≤◌, Bool, true, false, T, eqb, ltb, leb, sym, refl, ap, ◌∙◌, inl, inr, ⊎_elim, arith, pow_pos}
-use Rattle.std.proofs.lemmas.Bool.{cases_Bool, cases_lt, and_parts, eq-eqb, eqb-true, leb-true, ltb-true}
+use Rattle.std.proofs.Common.{◌≡◌, ℕ, ◌-◌, ◌*◌, ◌%◌, ◌^◌, ◌<◌, ◌≤◌, Bool, true, false, T, eqb, sym, refl, ap, ◌∙◌, inl, inr, arith, pow_pos}
+use Rattle.std.proofs.lemmas.Bool.{cases_lt, and_parts, eq-eqb, eqb-true}
 use Rattle.tree.specs.declared.Node.{Node}
 use Rattle.tree.specs.Nodes.{node_at, width_of, IsNode, Twins}
 use Rattle.tree.proofs.Members.{range}
@@ -18,10 +18,7 @@ end_after d x = omega (arith, pow_pos (d - x.depth))
 
 -- a node as a record's test finds it
 pub tested_node : (d e p : ℕ) → is_node d e p ≡ true → IsNode d (node_at e p)
-tested_node d e p t =
-    let a = and_parts (leb e d) _ t in
-    let b = and_parts (ltb p (2 ^ d)) _ a.1 in
-    node_from d (width_of d e) (node_at e p) (leb-true _ _ a.0) refl (eqb-true _ _ b.1) (ltb-true _ _ b.0)
+tested_node d e p t = grind (arith, node_from)
 
 -- the sibling test
 twin_true : (d : ℕ) (x y : Node) → Twins d x y → is_twin d x y ≡ true
@@ -48,7 +45,4 @@ twin_from d x y i j t =
 
 pub twin_is : (d : ℕ) (x y : Node) (r : Bool) → IsNode d x → IsNode d y → (T r → Twins d x y) → (Twins d x y → T r) → r ≡ is_twin d x y
 twin_is d x y true i j f g = sym (twin_true d x y (f tt))
-twin_is d x y false i j f g = ⊎_elim
-    (λ (t : is_twin d x y ≡ true). absurd (g (twin_from d x y i j t)))
-    (λ (t : is_twin d x y ≡ false). sym t)
-    (cases_Bool (is_twin d x y))
+twin_is d x y false i j f g = grind (arith, twin_from)

@@ -1,19 +1,16 @@
 -- One step of a walk along the chain, for each thing that it can meet.
-use Rattle.std.proofs.Common.{◌≡◌, ℕ, zero, suc, ◌<◌, ◌≤◌, Bool, true, false, cond, ◌&&◌, eqb, ltb, ◌≢◌, List, [], ◌∷◌, length, get_or, is_some, Some, None, Option, sym, refl, ap, subst, ⊎_elim}
-use Rattle.std.proofs.lemmas.Bool.{cases_Bool, lt-ltb, le-ltb, and_parts}
+use Rattle.std.proofs.Common.{◌≡◌, ℕ, zero, suc, ◌<◌, ◌≤◌, true, false, ◌&&◌, eqb, ltb, ◌≢◌, List, [], length, get_or, is_some, Some, Option, refl, ap, subst, arith}
+use Rattle.std.proofs.lemmas.Bool.{lt-ltb, le-ltb, and_parts}
 use Rattle.octets.specs.Buffers.{is_blank}
 use Rattle.device.specs.Effects.{Slots}
 use Rattle.layout.specs.declared.NodeFields.{NodeFields}
 use Rattle.layout.specs.Records.{part, is_node, is_record, node_fields, node_of}
+use Rattle.std.proofs.lemmas.Option.{cond_some}
 use Rattle.tree.specs.declared.Node.{Node}
-use Rattle.chain.specs.Reading.{Link, Walk, Walk.broken, Walk.walked, consed, node_in, link_at, end_of, may_follow, walk}
+use Rattle.chain.specs.Reading.{Link, Walk.broken, Walk.walked, consed, node_in, link_at, end_of, may_follow, walk}
 use Rattle.chain.specs.Listing.{first_slot}
 
 -- what a record's bytes say where they are laid out as one
-named : (b : Bool) (x y : NodeFields) → cond b (Some x) None ≡ Some y → (b ≡ true) × (x ≡ y)
-named true x y e = (refl, cc)
-named false x y e = absurd (cc)
-
 pub record Laid (d : ℕ) (bs : List ℕ) (f : NodeFields) : Type 0 where
   pub fields : node_fields bs ≡ f
   pub node : is_node d f.depth f.first ≡ true
@@ -23,7 +20,7 @@ pub record Laid (d : ℕ) (bs : List ℕ) (f : NodeFields) : Type 0 where
 pub laid : (d : ℕ) (bs : List ℕ) (f : NodeFields) → node_of d bs ≡ Some f → Laid d bs f
 unfolding node_of
 laid d bs f e =
-    let p = named (is_record d bs) (node_fields bs) f e in
+    let p = cond_some (is_record d bs) (node_fields bs) f e in
     let q = and_parts (eqb (get_or bs 0 0) 2) _ p.0 in
     let r = and_parts (is_blank (part 6 26 bs)) _ q.1 in
     record { fields = p.1; node = subst (λ (z : NodeFields). is_node d z.depth z.first ≡ true) p.1 r.1; here = r.1; some = ap is_some e }
@@ -52,28 +49,9 @@ module _ (d : ℕ) (s : Slots) where
   walk_on k from b last zero ne h e = absurd (ne refl)
   walk_on k from b last (suc i) ne h e = let t : ltb (suc i) (length s) ≡ true = lt-ltb _ _ h in rw (t, e)
 
-  consed_first : (x : Link) (w : Walk) (xs : List Link) → consed x w ≡ walked xs → x.slot ≡ first_slot xs
-  consed_first x (broken i) xs e = absurd (cc)
-  consed_first x (walked ys) xs e = let q : x ∷ ys ≡ xs = cc in ap first_slot q
-
-  first_none : (xs : List Link) → walked [] ≡ walked xs → first_slot xs ≡ 0
-  first_none [] e = refl
-  first_none (x ∷ xs) e = absurd (cc)
-
   -- a walk that succeeds begins with the record in the slot that it was sent to
   pub walk_first : (k from : ℕ) (b : Option Node) (last i : ℕ) (xs : List Link) → walk d k s from b last i ≡ walked xs → i ≡ first_slot xs
   unfolding walk
-  walk_first k from b last zero xs e = sym (first_none xs e)
+  walk_first k from b last zero xs e = let q : [] ≡ xs = cc in ap first_slot q
   walk_first zero from b last (suc i) xs e = absurd (cc)
-  walk_first (suc k) from b last (suc i) xs e = ⊎_elim
-      (λ (t : ltb (suc i) (length s) ≡ true). ⊎_elim
-      (λ (u : (is_some (node_of d (get_or s (suc i) [])) && may_follow d from b (node_in (get_or s (suc i) []))) ≡ true).
-      consed_first (link_at s (suc i)) _ xs (rw (t, u) at e))
-      (λ (u : (is_some (node_of d (get_or s (suc i) [])) && may_follow d from b (node_in (get_or s (suc i) []))) ≡ false).
-      let f : broken (suc i) ≡ walked xs = rw (t, u) at e in
-      absurd (cc))
-      (cases_Bool (is_some (node_of d (get_or s (suc i) [])) && may_follow d from b (node_in (get_or s (suc i) [])))))
-      (λ (t : ltb (suc i) (length s) ≡ false).
-      let f : broken last ≡ walked xs = rw t at e in
-      absurd (cc))
-      (cases_Bool (ltb (suc i) (length s)))
+  walk_first (suc k) from b last (suc i) xs e = grind arith

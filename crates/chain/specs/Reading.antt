@@ -2,6 +2,7 @@
 use Rattle.std.specs.Prelude.{ℕ, zero, suc, ◌+◌, ◌*◌, ◌%◌, ◌^◌, max, Bool, false, cond, not, ◌&&◌, List, [], ◌∷◌, map, length, is_some, Some, None, Option, ◌==◌, nat_le, nat_lt, slice_index_or}
 use Rattle.device.specs.Effects.{Slots}
 use Rattle.layout.specs.declared.Head.{Head}
+use Rattle.layout.specs.declared.Numbers.{Numbers}
 use Rattle.layout.specs.Records.{head_of, node_of, node_fields, value_of}
 use Rattle.tree.specs.declared.Node.{Node}
 use Rattle.tree.specs.Nodes.{node_at, width_of}
@@ -77,14 +78,17 @@ abbrev pub judged : ℕ → Head → Walk → File
 judged d h (broken i) = bad_link i
 judged d h (walked xs) = cond (nat_lt (lowest_from d h.issued xs) (2 ^ d)) (uncovered (lowest_from d h.issued xs)) (sound h xs)
 
-abbrev pub headed : ℕ → ℕ → ℕ → Slots → Option Head → File
-headed d g w s None = bad_head
-headed d g w s (Some h) =
-    cond (h.generator == g && h.sealer == w) (judged d h (walk d (suc (2 ^ d)) s 0 None 0 h.first)) bad_head
+-- whether a head names these numbers
+abbrev pub bears : Head → Numbers → Bool
+bears h numbers = h.numbers.generator == numbers.generator && h.numbers.sealer == numbers.sealer
 
--- the file in the slots s, of a tree of d levels, to a server whose generator has the number g and its sealer the number w
-unfoldable pub file_of : ℕ → ℕ → ℕ → Slots → File
-file_of d g w s = headed d g w s (head_of d (slice_index_or s 0 []))
+abbrev pub headed : ℕ → Numbers → Slots → Option Head → File
+headed d numbers s None = bad_head
+headed d numbers s (Some h) = cond (bears h numbers) (judged d h (walk d (suc (2 ^ d)) s 0 None 0 h.first)) bad_head
+
+-- the file in the slots s, of a tree of d levels, to a server whose generator and sealer have these numbers
+unfoldable pub file_of : ℕ → Numbers → Slots → File
+file_of d numbers s = headed d numbers s (head_of d (slice_index_or s 0 []))
 
 -- the slots of the chain, and whether a slot is free: not the head's and not on the chain
 abbrev pub slots_of : List Link → List ℕ

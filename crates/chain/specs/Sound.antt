@@ -3,8 +3,8 @@ use Rattle.std.specs.Prelude.{◌≡◌, ℕ, ◌+◌, ◌-◌, ◌^◌, ◌<◌
 use Rattle.octets.specs.Buffers.{zeros}
 use Rattle.device.specs.Effects.{Slots}
 use Rattle.layout.specs.declared.Head.{Head}
-use Rattle.layout.specs.declared.NodeFields.{NodeFields}
-use Rattle.layout.specs.Records.{head_of, encode_head, node_fields, node_of, encode_node}
+use Rattle.layout.specs.declared.Numbers.{Numbers}
+use Rattle.layout.specs.Records.{head_of, encode_head, node_fields, node_of, fields_of, encode_node}
 use Rattle.layout.specs.Trips.{HeadFits, NodeFits}
 use Rattle.marks.specs.Rows.{room_of, unmarked}
 use Rattle.tree.specs.declared.Node.{Node}
@@ -32,11 +32,10 @@ pub record Lowest (d m : ℕ) (xs : List Node) (n : ℕ) : Type 0 where
   pub bare : Reached d xs n → ⊥
   pub below : (k : ℕ) → m ≤ k → k < n → Reached d xs k
 
--- a file with the head h and the chain xs
-pub record SoundFile (d g w : ℕ) (s : Slots) (h : Head) (xs : List Link) : Type 0 where
+-- a file with the head h and the chain xs, to a server with these numbers
+pub record SoundFile (d : ℕ) (numbers : Numbers) (s : Slots) (h : Head) (xs : List Link) : Type 0 where
   pub head : head_of d (slice_index_or s 0 []) ≡ Some h
-  pub generator : h.generator ≡ g
-  pub sealer : h.sealer ≡ w
+  pub named : h.numbers ≡ numbers
   pub chained : Chained d s 0 None h.first xs
   pub nodes : (x : Node) → In x (nodes_of xs) → IsNode d x
   pub ordered : Ordered d (nodes_of xs)
@@ -53,9 +52,6 @@ pub record Bare (d : ℕ) (s : Slots) (n : ℕ) : Type 0 where
   pub lowest : Lowest d head.issued (nodes_of links) n
 
 -- ---- a file as it is laid out
-abbrev pub fields_of : Node → ℕ → NodeFields
-fields_of x next = record { depth = x.depth; first = x.first; next = next }
-
 pub record Stands (d : ℕ) (s : Slots) (x : Link) (next : ℕ) : Type 0 where
   pub above : 0 < x.slot
   pub below : x.slot < length s
@@ -90,12 +86,12 @@ pub record FoundAt (d n b : ℕ) (xs : List Link) (f : Found) : Type 0 where
 -- ---- what is proved
 pub record FileLaws : Type 0 where
   -- what a sound file is, and nothing else is one
-  pub exact : (d g w : ℕ) (s : Slots) (h : Head) (xs : List Link) → file_of d g w s ≡ sound h xs ↔ SoundFile d g w s h xs
+  pub exact : (d : ℕ) (numbers : Numbers) (s : Slots) (h : Head) (xs : List Link) → file_of d numbers s ≡ sound h xs ↔ SoundFile d numbers s h xs
   -- the number that is told where one lies under no record
-  pub lacking : (d g w : ℕ) (s : Slots) (n : ℕ) → file_of d g w s ≡ uncovered n → Bare d s n
+  pub lacking : (d : ℕ) (numbers : Numbers) (s : Slots) (n : ℕ) → file_of d numbers s ≡ uncovered n → Bare d s n
   -- a chain laid out as the cover of numbers that are all issued is read back, with its head
   pub back : (d : ℕ) (s : Slots) (h : Head) (xs : List Link) (spent : List ℕ) → Laid d s h xs → nodes_of xs ≡ cover d spent → ((n : ℕ) → In n spent → n < h.issued) →
-      file_of d h.generator h.sealer s ≡ sound h xs
+      file_of d h.numbers s ≡ sound h xs
   -- the record that is told covers the number asked for, and where none is told none covers it
   pub found : (d n b : ℕ) (xs : List Link) (f : Found) → find_in d n b xs ≡ Some f → FoundAt d n b xs f
   pub missing : (d n b : ℕ) (xs : List Link) → find_in d n b xs ≡ None → Reached d (nodes_of xs) n → ⊥

@@ -18,7 +18,7 @@ ghost use Rattle.chain.specs.Sound.{FileLaws, FreeAre, FreeCount, free_in};
 ghost use Rattle.chain.specs.Steps.{Preceding};
 ghost use Rattle.marks.specs.Rows.{first_of};
 
-use device::ReadSlots;
+use device::{ReadSlots, SLOT_SIZE};
 use fault::Halt;
 use layout::{Head, NodeFields, Numbers, decode_head, decode_node};
 use marks::{count_unmarked, first_unmarked, mark, room};
@@ -43,7 +43,7 @@ pub struct Found {
     pub before: u16,
     pub node: Node,
     /// the slot of the record after it, 0 for none
-    // no Option: it is laid out again as it was read, and in a record an index has no other form
+    // no Option: as in a record
     pub next: u16,
 }
 
@@ -73,12 +73,16 @@ fn bad_link(slot: u16) -> Halt
 }
 
 // Reads the head, which has to name this generator and this sealer.
-fn read_head<D: ReadSlots>(device: &D, numbers: Numbers, slot: &mut [u8; 64]) -> Result<Head, Halt>
-    ensures { result ≡ head_read tree_levels numbers.generator numbers.sealer (D.slots device.now) (D.powered device.now) }
+fn read_head<D: ReadSlots>(
+    device: &D,
+    numbers: Numbers,
+    slot: &mut [u8; SLOT_SIZE],
+) -> Result<Head, Halt>
+    ensures { result ≡ head_read tree_levels numbers (D.state device.now) }
 {
     read_at(device, 0, slot)?;
     decode_head(LEVELS, slot)
-        .filter(|head| head.numbers() == numbers)
+        .filter(|head| head.numbers == numbers)
         .ok_or(Halt::plain(Refusal::BadHead))
 }
 
@@ -86,9 +90,9 @@ fn read_head<D: ReadSlots>(device: &D, numbers: Numbers, slot: &mut [u8; 64]) ->
 fn read_record<D: ReadSlots>(
     device: &D,
     index: u16,
-    slot: &mut [u8; 64],
+    slot: &mut [u8; SLOT_SIZE],
 ) -> Result<NodeFields, Halt>
-    ensures { result ≡ record_read tree_levels (D.slots device.now) (D.powered device.now) index }
+    ensures { result ≡ record_read tree_levels (D.state device.now) index }
 {
     read_at(device, index, slot)?;
     decode_node(LEVELS, slot).ok_or(bad_link(index))
@@ -140,17 +144,18 @@ impl Tally {
 }
 
 // Walks along the chain, marks its slots and looks for the record that covers a number. Each record ends after the one
-// before it, so the walk ends on every file.
+// before it, so the walk ends on every file. That the power is on is asked for, here and above: a device that a call may cut has no
+// type that says it.
 fn walk_along<D: ReadSlots>(
     device: &D,
     head: &Head,
     wanted: u32,
     marks: &mut [u8],
-    slot: &mut [u8; 64],
+    slot: &mut [u8; SLOT_SIZE],
 ) -> Result<Tally, Halt>
-    requires { D.powered device.now ≡ true }
-    ensures is { result ≡ tally_of tree_levels wanted (none_yet head.now.issued) 0 (walk tree_levels (suc (2 ^ tree_levels)) (D.slots device.now) 0 None 0 head.now.first) }
-    ensures marks { (xs : List Link) → walk tree_levels (suc (2 ^ tree_levels)) (D.slots device.now) 0 None 0 head.now.first ≡ walked xs → marks.new ≡ marked_all marks.old xs }
+    requires { (D.state device.now).power ≡ true }
+    ensures is { result ≡ tally_of tree_levels wanted (none_yet head.now.issued) 0 (walk tree_levels (suc (2 ^ tree_levels)) (D.state device.now).slots 0 None 0 head.now.first) }
+    ensures marks { (xs : List Link) → walk tree_levels (suc (2 ^ tree_levels)) (D.state device.now).slots 0 None 0 head.now.first ≡ walked xs → marks.new ≡ marked_all marks.old xs }
 {
     let count = device.count();
     let mut tally = Tally {
@@ -159,6 +164,7 @@ fn walk_along<D: ReadSlots>(
         found: None,
     };
     let mut before = None;
+    // where `before` ends: the walk's definition steps both
     let mut from = 0;
     let mut last = 0;
     let mut next = head.first;
@@ -168,10 +174,7 @@ fn walk_along<D: ReadSlots>(
             return Err(bad_link(last));
         }
         let fields = read_record(device, next, slot)?;
-        let node = Node {
-            depth: fields.depth,
-            first: fields.first as u32,
-        };
+        let node = Node::from(fields);
         if !may_follow(from, before, node) {
             return Err(bad_link(next));
         }
@@ -199,11 +202,11 @@ fn judge<D: ReadSlots>(
     head: &Head,
     wanted: u32,
     marks: &mut [u8],
-    slot: &mut [u8; 64],
+    slot: &mut [u8; SLOT_SIZE],
 ) -> Result<Survey, Halt>
-    requires { D.powered device.now ≡ true }
-    ensures is { result ≡ answer_of tree_levels (Some wanted) (chain_of tree_levels head.now (D.slots device.now)) }
-    ensures marks { (h : Head) (xs : List Link) → chain_of tree_levels head.now (D.slots device.now) ≡ read h xs → marks.new ≡ marked_all marks.old xs }
+    requires { (D.state device.now).power ≡ true }
+    ensures is { result ≡ answer_of tree_levels (Some wanted) (chain_of tree_levels head.now (D.state device.now).slots) }
+    ensures marks { (h : Head) (xs : List Link) → chain_of tree_levels head.now (D.state device.now).slots ≡ read h xs → marks.new ≡ marked_all marks.old xs }
 {
     let tally = walk_along(device, head, wanted, marks, slot)?;
     if tally.lowest < LEAVES {
@@ -217,7 +220,7 @@ fn judge<D: ReadSlots>(
 }
 
 // Marks and slot stay two, here and in the calls: each buffer has its own length and its own promise, and a struct of borrows would be
-// made for each call and taken apart in it.
+// made for each call and taken apart in it. What each holds afterwards is a clause of each call: between reading and end the marks stand.
 /// Reads a file: its head, its chain's length, and the record that covers the number asked for, or else the number to be
 /// issued next. Afterwards just the slots of the chain are marked, and none where reading is declined. `slot` is lent for
 /// key material, and zero afterwards.
@@ -226,10 +229,10 @@ pub fn read_marking<D: ReadSlots>(
     numbers: Numbers,
     asked: Option<u32>,
     marks: &mut [u8],
-    slot: &mut [u8; 64],
+    slot: &mut [u8; SLOT_SIZE],
 ) -> Result<Survey, Halt>
-    ensures is { result ≡ answer_of tree_levels asked (reading_of tree_levels numbers.generator numbers.sealer (length marks.old) (D.slots device.now) (D.powered device.now)) }
-    ensures marks { marks.new ≡ marks_of (length marks.old) (reading_of tree_levels numbers.generator numbers.sealer (length marks.old) (D.slots device.now) (D.powered device.now)) }
+    ensures is { result ≡ answer_of tree_levels asked (reading_of tree_levels numbers (length marks.old) (D.state device.now)) }
+    ensures marks { marks.new ≡ marks_of (length marks.old) (reading_of tree_levels numbers (length marks.old) (D.state device.now)) }
     ensures wiped { slot.new ≡ blank }
 {
     let guard = Wiped { pad: slot };
@@ -254,9 +257,9 @@ pub fn read_file<D: ReadSlots>(
     numbers: Numbers,
     asked: Option<u32>,
     marks: &mut [u8],
-    slot: &mut [u8; 64],
+    slot: &mut [u8; SLOT_SIZE],
 ) -> Result<Survey, Halt>
-    ensures is { result ≡ answer_of tree_levels asked (reading_of tree_levels numbers.generator numbers.sealer (length marks.old) (D.slots device.now) (D.powered device.now)) }
+    ensures is { result ≡ answer_of tree_levels asked (reading_of tree_levels numbers (length marks.old) (D.state device.now)) }
     ensures marks { marks.new ≡ zeros (length marks.old) }
     ensures wiped { slot.new ≡ blank }
     ensures laws { FileLaws }

@@ -3,13 +3,13 @@
 use crate::scene::{Down, MARKS, NUMBERS, Story, Tickets, Up, redeem, reopen};
 use beds::slot_at;
 use chachaseal::ChaChaSealer;
-use chain::{Survey, read_file};
+use chain::Survey;
 use device::{ReadSlots, WriteSlots};
 use fault::Call;
 use generators::ChaChaGenerator;
 use samples::{add, all_are};
 use server::Cold;
-use serving::{PAIR, device_of, record_at};
+use serving::{PAIR, Records, device_of, survey};
 
 // The levels of the tree, and how many numbers it has.
 const LEVELS: u8 = 16;
@@ -34,23 +34,24 @@ fn is_touched(first: u32, width: u32, numbers: &Tickets) -> bool {
 
 // The depth and the width of the widest node that begins at a number and covers no spent one.
 fn widest_at(first: u32, numbers: &Tickets) -> (u8, u32) {
-    for depth in 0..LEVELS {
-        let width = LEAVES >> depth;
-        if first.checked_rem(width) == Some(0) && !is_touched(first, width, numbers) {
-            return (depth, width);
-        }
-    }
-    (LEVELS, 1)
+    let depth = (0..LEVELS)
+        .find(|depth| {
+            let width = LEAVES >> *depth;
+            first.checked_rem(width) == Some(0) && !is_touched(first, width, numbers)
+        })
+        .unwrap_or(LEVELS);
+    // the lesser of the two is depth: find tells the check no bound
+    (depth, LEAVES >> depth.min(LEVELS))
 }
 
 // Whether the records from a slot on are the cover of the spent numbers, in order.
 fn is_cover<D: ReadSlots>(device: &D, survey: &Survey, numbers: &Tickets) -> bool {
     let mut next = survey.head.first;
     let mut from = 0;
-    for _ in 0..survey.length {
+    for (_, record) in Records::new(device, next, survey.length) {
         from = unspent_from(from, numbers);
         let (depth, width) = widest_at(from, numbers);
-        match record_at(device, next) {
+        match record {
             Some(fields) if fields.depth == depth && fields.first as u32 == from => {
                 next = fields.next;
             }
@@ -68,13 +69,9 @@ fn used<D: ReadSlots>(device: &D) -> usize {
         .count()
 }
 
-fn survey<D: ReadSlots>(device: &D) -> Option<Survey> {
-    read_file(device, PAIR, None, &mut [0; MARKS], &mut [0; 64]).ok()
-}
-
 // Whether the chain is the cover of the spent numbers, and everything off it is zero.
 fn is_clean<D: ReadSlots>(device: &D, numbers: &Tickets) -> bool {
-    survey(device).is_some_and(|survey| {
+    survey::<MARKS, _>(device, PAIR, None).is_ok_and(|survey| {
         is_cover(device, &survey, numbers) && used(device) == survey.length as usize
     })
 }
@@ -101,7 +98,7 @@ fn settle<D: ReadSlots>(device: &D, story: &mut Story) {
 
 // Whether the head counts the tickets given, or one more where an issue was cut.
 fn is_counted<D: ReadSlots>(device: &D, story: &Story) -> bool {
-    survey(device).is_some_and(|survey| {
+    survey::<MARKS, _>(device, PAIR, None).is_ok_and(|survey| {
         let given = story.given();
         let issued = survey.head.issued as usize;
         let one_more = issued.checked_sub(1) == Some(given);

@@ -6,7 +6,7 @@ mod look;
 mod scene;
 mod tally;
 
-use beds::{Base, Bed, Medium, put_away};
+use beds::{Base, Bed, Medium};
 use chachaseal::ChaChaSealer;
 use device::WriteSlots;
 use fault::Fault;
@@ -65,20 +65,19 @@ impl Ground {
     // Plays the scenario up to a cut.
     fn play(&self, row: &mut [u8; ROW], cut: Cut) -> Story {
         let mut story = Story::new();
-        put_away(played(self.lay(row, Some(cut)), &mut story));
+        drop(played(self.lay(row, Some(cut)), &mut story));
         story
     }
 
     // Reopens, with a cut or none.
     fn reopen(&self, row: &mut [u8; ROW], cut: Option<Cut>) -> Option<Fault> {
-        let (bed, fault) = reopened(self.lay(row, cut));
-        put_away(bed);
+        let (_bed, fault) = reopened(self.lay(row, cut));
         fault
     }
 
     // Looks at a tree that was reopened.
     fn look(&self, row: &mut [u8; ROW], story: &mut Story) {
-        put_away(look_over(self.lay(row, None), story));
+        drop(look_over(self.lay(row, None), story));
     }
 }
 

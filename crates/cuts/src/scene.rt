@@ -5,7 +5,7 @@ use device::WriteSlots;
 use fault::{Call, Fault, Step};
 use generators::ChaChaGenerator;
 use refusal::Refusal;
-use samples::{Bytes, KEY_NAME, ROOM, ROOT, add, record_of, session};
+use samples::{Bytes, KEY_NAME, ROOM, ROOT, add, session_record};
 use scratch::Scratch;
 use server::{Cold, Running};
 use serving::{opened, split};
@@ -86,6 +86,7 @@ impl Story {
         }
     }
 
+    // Numbers are taken by the remainder, here and below: to the check a number is any number.
     // A state came out: it has to be the number's own, and the first.
     fn yielded(&mut self, n: usize, state: &Bytes) {
         let number = &mut self.numbers[n % NUMBERS];
@@ -122,7 +123,7 @@ impl Story {
 
 // The state record of the session that has a number's ticket.
 fn record(n: usize) -> Bytes {
-    record_of(&session(b"game", (n % NUMBERS) as u8))
+    session_record(b"game", (n % NUMBERS) as u8)
 }
 
 fn make<D: WriteSlots>(server: Down<D>, story: &mut Story) -> Result<Up<D>, Down<D>> {

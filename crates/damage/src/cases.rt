@@ -7,6 +7,7 @@ use refusal::Refusal::{
     self, BadHead, BadLink, Exhausted, NoFreeSlot, NoPower, NotIssued, OtherName, SealBroken,
     Spent, TicketLength, Uncovered,
 };
+use samples::Change;
 
 /// A refusal and its place.
 pub(crate) type Refused = (Refusal, u32);
@@ -74,7 +75,7 @@ pub(crate) const TICKETS: [(&str, usize, &[Edit], Refused); 14] = [
 
 /// A file that is damaged: the bytes that change, each by its slot, its place there and its new value; and how it is
 /// refused. With number 0 spent the chain's record k stands in slot 18 - k: (16, 1) in 17, (15, 2) in 16, (14, 4) in 15.
-pub(crate) type FileCase = (&'static str, &'static [(usize, usize, u8)], Refused);
+pub(crate) type FileCase = (&'static str, &'static [Change], Refused);
 
 pub(crate) const HEADS: [FileCase; 9] = [
     ("first byte 2", &[(0, 0, 2)], (BadHead, 0)),

@@ -18,6 +18,7 @@ pub(crate) enum Edit {
     TurnLast,
 }
 
+// Put and turn are two, and no closure for the change: its clause would be longer than the second.
 fn put(bytes: &mut Bytes, at: usize, to: u8) {
     if let Some(byte) = bytes.row.get_mut(at) {
         *byte = to;

@@ -15,9 +15,9 @@ use hmacseal::HmacSealer;
 use memory::Memory;
 use octets::same_bytes;
 use refusal::Refusal;
-use report::Report;
+use report::{Left, Report};
 use samples::all_are;
-use stand::{FILE, Ground, ROW, Stand};
+use stand::{FILE, JOURNAL, MEMORY, ROW, Stand};
 
 type First = Stand<ShaGenerator, HmacSealer>;
 
@@ -34,15 +34,15 @@ fn other_pairs(report: &mut Report, stand: &First) {
 
 fn power_cuts(report: &mut Report, stand: &First) {
     report.show.println("Power cuts");
-    stand.series(report, Ground::Memory, &[9; ROW], &MADE);
+    stand.series(report, MEMORY, &[9; ROW], &MADE);
     for steps in [OLD_HEAD, NEW_HEAD] {
-        let ticket = stand.series(report, Ground::Memory, &stand.file, &steps);
+        let ticket = stand.series(report, MEMORY, &stand.file, &steps);
         println!(report.show; "    the ticket's number is {}", ticket.row[19]);
     }
-    stand.series(report, Ground::Memory, &stand.file, &JOINED);
-    stand.series(report, Ground::Memory, &stand.file, &ERASED);
+    stand.series(report, MEMORY, &stand.file, &JOINED);
+    stand.series(report, MEMORY, &stand.file, &ERASED);
     report.show.println("  over the journal over a byte image:");
-    stand.series(report, Ground::Journal, &stand.file, &TORN);
+    stand.series(report, JOURNAL, &stand.file, &TORN);
 }
 
 // Reads and writes past the end of a memory device.
@@ -61,8 +61,9 @@ fn past_the_end(report: &mut Report, file: &[u8; ROW]) {
     let mut slot = [7; 64];
     let (read, written) = go_past(&mut row, &mut slot);
     let same = same_bytes(&row, file);
-    report.outside("read", read, all_are(&slot, 0), same);
-    report.outside("written", written, true, same);
+    let clean = all_are(&slot, 0);
+    report.outside("read", read, Left { clean, same });
+    report.outside("written", written, Left { clean: true, same });
 }
 
 fn first_pair(report: &mut Report) {
@@ -83,7 +84,7 @@ fn first_pair(report: &mut Report) {
         .show
         .println("Numbers that are not issued and lie under no record");
     stand.bad_files(report, &UNCOVERED);
-    stand.series(report, Ground::Memory, &stand.file, &RESTORED);
+    stand.series(report, MEMORY, &stand.file, &RESTORED);
     stand.all_issued(report);
     stand.own_cases(report);
     power_cuts(report, &stand);

@@ -1,7 +1,7 @@
 //! What is printed of each call, and what is counted over all.
 use crate::cases::Refused;
 use device::DeviceFault;
-use fault::{Fault, layer_of};
+use fault::{Fault, Layer};
 use refusal::Refusal;
 use samples::{Bytes, Show, add};
 
@@ -11,21 +11,29 @@ const KINDS: usize = 16;
 /// What a call answers: where it writes, the length of that and the generator calls.
 pub(crate) type Answer = Result<Option<(usize, u32)>, Fault>;
 
+/// What a call leaves behind.
+#[derive(Clone, Copy)]
+pub(crate) struct Left {
+    /// whether every buffer lent for writing holds zeros
+    pub(crate) clean: bool,
+    /// whether every slot is as it was
+    pub(crate) same: bool,
+}
+
 /// What a call came to.
 #[derive(Clone, Copy)]
 pub(crate) struct Outcome {
     pub(crate) answer: Answer,
     /// what the lent buffer holds
     pub(crate) given: Bytes,
-    /// whether every buffer lent for writing holds zeros
-    pub(crate) clean: bool,
+    pub(crate) left: Left,
 }
 
 /// Where the calls are shown, and what all of them came to.
 #[derive(Drop)]
 pub(crate) struct Report<'a> {
     pub(crate) show: Show<'a>,
-    // whether each refusal came, at its number modulo 16
+    // whether each refusal came, at its number modulo 16; no set: it would want an allocator for sixteen flags
     seen: [bool; KINDS],
     refused: u32,
     clean: u32,
@@ -47,10 +55,11 @@ impl<'a> Report<'a> {
     }
 
     // Judges what a refusal left, and counts it where it is shown.
-    fn note(&mut self, shown: bool, refusal: Refusal, clean: bool, same: bool) {
+    fn note(&mut self, shown: bool, refusal: Refusal, left: Left) {
+        let Left { clean, same } = left;
         let dark = refusal == Refusal::NoPower;
         if shown {
-            self.seen[refusal.number() as usize % KINDS] = true;
+            self.seen[u8::from(refusal) as usize % KINDS] = true;
             add(&mut self.refused, 1);
             add(&mut self.clean, clean as u32);
             add(&mut self.dark, dark as u32);
@@ -69,7 +78,7 @@ impl<'a> Report<'a> {
             place,
             step,
         } = *fault;
-        let number = refusal.number();
+        let number = u8::from(refusal);
         print!(self.show; "  {what}: refusal {number}, call {call}, layer {layer}, place {place}");
         match step {
             Some(step) => println!(self.show; ", step {step}"),
@@ -88,22 +97,18 @@ impl<'a> Report<'a> {
     }
 
     /// Judges a call, which has to be refused as is told, or to be done. Shows it where it has a name.
-    pub(crate) fn tell(
-        &mut self,
-        what: &str,
-        outcome: &Outcome,
-        same: bool,
-        wanted: Option<Refused>,
-    ) {
+    pub(crate) fn tell(&mut self, what: &str, outcome: &Outcome, wanted: Option<Refused>) {
         let shown = !what.is_empty();
-        let mut told = None;
+        let told = outcome
+            .answer
+            .err()
+            .map(|fault| (fault.refusal, fault.place));
         match outcome.answer {
             Err(fault) => {
                 if shown {
                     self.show_refusal(what, &fault);
                 }
-                self.note(shown, fault.refusal, outcome.clean, same);
-                told = Some((fault.refusal, fault.place));
+                self.note(shown, fault.refusal, outcome.left);
             }
             Ok(numbers) => {
                 if shown {
@@ -116,25 +121,19 @@ impl<'a> Report<'a> {
     }
 
     /// Shows what a device of 18 slots answers on an index that it does not have.
-    pub(crate) fn outside(
-        &mut self,
-        what: &str,
-        answer: Result<(), DeviceFault>,
-        clean: bool,
-        same: bool,
-    ) {
+    pub(crate) fn outside(&mut self, what: &str, answer: Result<(), DeviceFault>, left: Left) {
         let Err(fault) = answer else {
             self.show
                 .expect(false, "a slot is there that should not be");
             return;
         };
         let refusal = Refusal::from(fault);
-        let number = refusal.number();
-        let layer = layer_of(refusal);
+        let number = u8::from(refusal);
+        let layer = Layer::from(refusal);
         println!(self.show;
             "  slot 18 of 18 slots, {what}: refusal {number}, no call, layer {layer}, place 18"
         );
-        self.note(true, refusal, clean, same);
+        self.note(true, refusal, left);
     }
 
     /// Shows the counts over all calls.

@@ -1,12 +1,12 @@
 //! A server's sound file with its tickets, and the calls that are made on it.
-use crate::report::{Answer, Outcome, Report};
-use beds::{Base, Bed, Medium, put_away};
+use crate::report::{Answer, Left, Outcome, Report};
+use beds::{Base, Bed, Medium};
 use device::WriteSlots;
 use fault::{Call, Fault};
 use generator::Generator;
 use medium::Cut;
 use octets::same_bytes;
-use samples::{Bytes, KEY_NAME, ROOM, ROOT, all_are, record_of, session};
+use samples::{Bytes, KEY_NAME, ROOM, ROOT, all_are, session_record};
 use scratch::Scratch;
 use sealer::Sealer;
 use server::{Answered, Cold, Running};
@@ -27,19 +27,35 @@ const ISSUED: usize = 5;
 // The most marks that are lent here.
 const MARKS: usize = 1025;
 
-/// Where a file lies: in a memory device's slots, or in those of a journal over a byte image.
+// Like that of cuts, with a place in the row and no tears: as one, each would carry the other's columns.
+/// A device that a file lies on: its kind, and the bytes that it takes of a row.
 #[derive(Clone, Copy)]
-pub(crate) enum Ground {
-    Memory,
-    Journal,
+pub(crate) struct Ground {
+    pub(crate) base: Base,
+    pub(crate) from: usize,
+    pub(crate) bytes: usize,
 }
 
+/// The file on a memory device.
+pub(crate) const MEMORY: Ground = Ground {
+    base: Base::Whole,
+    from: FILE,
+    bytes: ROW - FILE,
+};
+
+/// The file on a journal over a byte image.
+pub(crate) const JOURNAL: Ground = Ground {
+    base: Base::Journaled(Medium::Bytes),
+    from: 0,
+    bytes: ROW,
+};
+
 impl Ground {
-    fn lay<'a>(self, row: &'a mut [u8; ROW], cut: Option<Cut>) -> Bed<'a> {
-        match self {
-            Ground::Memory => Base::Whole.lay(&mut row[FILE..], cut),
-            Ground::Journal => Base::Journaled(Medium::Bytes).lay(row, cut),
-        }
+    pub(crate) fn lay<'a>(self, row: &'a mut [u8], cut: Option<Cut>) -> Bed<'a> {
+        let from = self.from.min(row.len());
+        let (_, rest) = row.split_at_mut(from);
+        let bytes = self.bytes.min(rest.len());
+        self.base.lay(&mut rest[..bytes], cut)
     }
 }
 
@@ -81,7 +97,7 @@ pub(crate) struct Stand<G, S> {
 
 /// The record of guest k's session.
 pub(crate) fn record(k: usize) -> Bytes {
-    record_of(&session(b"a guest", (k % 256) as u8))
+    session_record(b"a guest", (k % 256) as u8)
 }
 
 // What making or reopening answers: neither writes anything.
@@ -132,52 +148,47 @@ impl<G: Generator + Copy, S: Sealer + Copy> Stand<G, S> {
         }
     }
 
-    /// Makes a call on a device. What is lent for writing holds sevens before.
-    pub(crate) fn call<D: WriteSlots>(&self, device: D, asked: &Asked) -> (D, Outcome) {
-        let mut row = [7; ROOM];
+    /// Makes a call on a row, with a power cut or none. What is lent for writing holds sevens before.
+    pub(crate) fn call<const N: usize>(
+        &self,
+        ground: Ground,
+        row: &mut [u8; N],
+        cut: Option<Cut>,
+        asked: &Asked,
+    ) -> Outcome {
+        let before = *row;
+        let mut out = [7; ROOM];
         let mut marks = [7; MARKS];
         let mut scratch = Scratch::new();
         scratch.slot = [7; 64];
         let room = asked.room.min(ROOM);
         let lent = asked.marks.min(MARKS);
         let (server, answer) = self.answer(
-            device,
+            ground.lay(row, cut),
             asked,
-            &mut row[..room],
+            &mut out[..room],
             &mut marks[..lent],
             &mut scratch,
         );
+        drop(device_of(server));
+        // no Option: what is given is sent on, and where a call gives nothing no bytes are
         let length = answer.ok().flatten().map_or(0, |(length, _)| length);
-        let clean = all_are(&row[..room], 0)
+        let clean = all_are(&out[..room], 0)
             && all_are(&marks[..lent], 0)
             && all_are(&scratch.slot, 0);
-        let outcome = Outcome {
+        let same = same_bytes(row, &before);
+        Outcome {
             answer,
-            given: Bytes { row, length },
-            clean,
-        };
-        (device_of(server), outcome)
-    }
-
-    /// Makes a call on a row, with a power cut or none. Tells also whether every slot is as it was.
-    pub(crate) fn call_on(
-        &self,
-        ground: Ground,
-        row: &mut [u8; ROW],
-        cut: Option<Cut>,
-        asked: &Asked,
-    ) -> (Outcome, bool) {
-        let before = *row;
-        let (bed, outcome) = self.call(ground.lay(row, cut), asked);
-        put_away(bed);
-        (outcome, same_bytes(row, &before))
+            given: Bytes { row: out, length },
+            left: Left { clean, same },
+        }
     }
 
     // One call of the laying out, which has to be done.
     fn lay(&mut self, report: &mut Report, call: Call, sent: Bytes) -> Bytes {
         let mut row = self.file;
         let asked = Asked::new(call, sent);
-        let (outcome, _same) = self.call_on(Ground::Memory, &mut row, None, &asked);
+        let outcome = self.call(MEMORY, &mut row, None, &asked);
         self.file = row;
         report
             .show

@@ -2,14 +2,14 @@
 use crate::cases::{COUNTS, CROWDED, EXHAUSTED, FileCase, RECORDS, Refused, SHORT, Step, TICKETS};
 use crate::edits::{Edit, edited};
 use crate::report::Report;
-use crate::stand::{Asked, FILE, Ground, ROW, SLOTS, Stand, record};
-use beds::{Base, put_away};
+use crate::stand::{Asked, FILE, Ground, MEMORY, ROW, SLOTS, Stand, record};
+use beds::Base;
 use device::WriteSlots;
 use fault::{Call, Fault};
 use generator::Generator;
 use octets::same_bytes;
 use refusal::Refusal;
-use samples::{Bytes, ROOM, all_are};
+use samples::{Bytes, ROOM, change};
 use scratch::Scratch;
 use sealer::Sealer;
 use server::Cold;
@@ -37,8 +37,8 @@ impl<G: Generator + Copy, S: Sealer + Copy> Stand<G, S> {
         wanted: Option<Refused>,
     ) {
         let mut row = *file;
-        let (outcome, same) = self.call_on(Ground::Memory, &mut row, None, asked);
-        report.tell(what, &outcome, same, wanted);
+        let outcome = self.call(MEMORY, &mut row, None, asked);
+        report.tell(what, &outcome, wanted);
     }
 
     /// Lends too few bytes.
@@ -67,12 +67,13 @@ impl<G: Generator + Copy, S: Sealer + Copy> Stand<G, S> {
                 marks,
             };
             let mut row = [9; LONGEST];
-            let length = LONGEST.min(slots.saturating_mul(64));
-            let memory = Base::Whole.lay(&mut row[..length], None);
-            let (memory, outcome) = self.call(memory, &asked);
-            put_away(memory);
-            let wanted = Some((Refusal::SlotCount, 0));
-            report.tell(what, &outcome, all_are(&row, 9), wanted);
+            let ground = Ground {
+                base: Base::Whole,
+                from: 0,
+                bytes: slots.saturating_mul(64),
+            };
+            let outcome = self.call(ground, &mut row, None, &asked);
+            report.tell(what, &outcome, Some((Refusal::SlotCount, 0)));
         }
     }
 
@@ -105,7 +106,7 @@ impl<G: Generator + Copy, S: Sealer + Copy> Stand<G, S> {
     pub(crate) fn bad_files(&self, report: &mut Report, cases: &[FileCase]) {
         for (what, changes, refused) in cases {
             let mut row = self.file;
-            change(&mut row, changes);
+            change(&mut row[FILE..], changes);
             self.reopen(report, what, &row, *refused);
         }
     }
@@ -170,9 +171,9 @@ impl<G: Generator + Copy, S: Sealer + Copy> Stand<G, S> {
         let mut row = [0; ROOM];
         let mut answers = [None; 2];
         let mut file = self.file;
-        let memory = Base::Whole.lay(&mut file[FILE..], None);
+        let memory = MEMORY.lay(&mut file, None);
         let server = reopened(Cold::new(memory, self.g, self.s));
-        put_away(device_of(self.redeem_each(server, &tickets, &mut row, &mut answers)));
+        drop(device_of(self.redeem_each(server, &tickets, &mut row, &mut answers)));
         let [first, second] = answers;
         let refused = first.is_some_and(|answer| answer.is_err());
         let Some(Ok((length, calls))) = second else {
@@ -205,8 +206,8 @@ impl<G: Generator + Copy, S: Sealer + Copy> Stand<G, S> {
         let mut given = Bytes::none();
         for (what, call, n, cut, refused) in steps {
             let asked = Asked::new(*call, self.sent(*call, *n));
-            let (outcome, same) = self.call_on(ground, &mut row, *cut, &asked);
-            report.tell(what, &outcome, same, *refused);
+            let outcome = self.call(ground, &mut row, *cut, &asked);
+            report.tell(what, &outcome, *refused);
             given = outcome.given;
         }
         given
@@ -216,8 +217,8 @@ impl<G: Generator + Copy, S: Sealer + Copy> Stand<G, S> {
     pub(crate) fn all_issued(&self, report: &mut Report) {
         report.show.println("All numbers issued");
         let mut row = self.file;
-        change(&mut row, &[(0, 7, 1), (0, 9, 0)]);
-        self.series(report, Ground::Memory, &row, &EXHAUSTED);
+        change(&mut row[FILE..], &[(0, 7, 1), (0, 9, 0)]);
+        self.series(report, MEMORY, &row, &EXHAUSTED);
     }
 
     /// What hangs on the generator and the sealer.
@@ -225,7 +226,7 @@ impl<G: Generator + Copy, S: Sealer + Copy> Stand<G, S> {
         self.bad_tickets(report);
         self.goes_on(report);
         report.show.println("Too few free slots");
-        self.series(report, Ground::Memory, &self.file, &CROWDED);
+        self.series(report, MEMORY, &self.file, &CROWDED);
     }
 }
 
@@ -235,11 +236,4 @@ fn reopened<D: WriteSlots, G: Generator + Copy, S: Sealer + Copy>(
 ) -> Held<D, G, S> {
     let (server, _fault) = opened(cold.reopen(&mut [7; SLOTS], &mut Scratch::new()));
     server
-}
-
-// Puts bytes into the slots of a file.
-fn change(row: &mut [u8; ROW], changes: &[(usize, usize, u8)]) {
-    for (slot, byte, to) in changes {
-        row[FILE + *slot % SLOTS * 64 + *byte % 64] = *to;
-    }
 }

@@ -4,8 +4,8 @@
 //! stands in specs/Effects.antt; every device, at the bottom or a layer above another, is proved to do just that.
 #![tactic(auto)]
 
-ghost use Rattle.std.specs.Prelude.{◌≡◌, ℕ, ◌<◌, Bool, List, [], length, slice_index_or};
-ghost use Rattle.device.specs.Effects.{Reading, Writing, Restarting, Tearing, slot_size, blank};
+ghost use Rattle.std.specs.Prelude.{◌≡◌, ℕ, ◌<◌, [], length, slice_index_or};
+ghost use Rattle.device.specs.Effects.{State, Reading, Writing, Restarting, Tearing, slot_size, blank};
 ghost use Rattle.device.specs.Refusals.{refusal_of};
 
 use refusal::Refusal;
@@ -43,38 +43,37 @@ impl From<DeviceFault> for Refusal {
 
 /// A device that can be read.
 pub trait ReadSlots {
-    ghost slots: { Self → List (List ℕ) };
-
-    ghost powered: { Self → Bool };
+    ghost state: { Self → State };
 
     /// Each slot has its bytes.
-    ghost sized: { (d : Self) (k : ℕ) → k < length (slots d) → length (slice_index_or (slots d) k []) ≡ slot_size };
+    ghost sized: { (d : Self) (k : ℕ) → k < length (state d).slots → length (slice_index_or (state d).slots k []) ≡ slot_size };
 
     /// The number of slots.
     fn count(&self) -> usize
-        ensures { result ≡ length (slots self.now) };
+        ensures { result ≡ length (state self.now).slots };
 
     /// Copies a slot; zeros where it is declined.
-    fn read(&self, index: usize, out: &mut [u8; 64]) -> Result<(), DeviceFault>
-        ensures { Reading (slots self.now) (powered self.now) index result out.new };
+    fn read(&self, index: usize, out: &mut [u8; SLOT_SIZE]) -> Result<(), DeviceFault>
+        ensures { Reading (state self.now) index result out.new };
 }
 
-// WriteSlots and TearSlots differ in one relation, and stay two traits: the project asks for whole writes by the type.
+// WriteSlots and TearSlots differ in one relation, and stay two traits: the project asks for whole writes by the type. `restart`, alike
+// in both, stands in each: a trait for it would be one more impl for every device.
 
 /// A device whose writes are whole: a cut leaves a slot old or new.
 pub trait WriteSlots: ReadSlots {
-    fn write(&mut self, index: usize, bytes: &[u8; 64]) -> Result<(), DeviceFault>
-        ensures { Writing (Self.ReadSlots.slots self.old) (Self.ReadSlots.powered self.old) index bytes.now result (Self.ReadSlots.slots self.new) (Self.ReadSlots.powered self.new) };
+    fn write(&mut self, index: usize, bytes: &[u8; SLOT_SIZE]) -> Result<(), DeviceFault>
+        ensures { Writing (Self.ReadSlots.state self.old) index bytes.now result (Self.ReadSlots.state self.new) };
 
     fn restart(&mut self) -> Result<(), DeviceFault>
-        ensures { Restarting (Self.ReadSlots.slots self.old) result (Self.ReadSlots.slots self.new) (Self.ReadSlots.powered self.new) };
+        ensures { Restarting (Self.ReadSlots.state self.old) result (Self.ReadSlots.state self.new) };
 }
 
 /// A device whose writes can tear: a cut leaves the first bytes of a slot new and the others old.
 pub trait TearSlots: ReadSlots {
-    fn write(&mut self, index: usize, bytes: &[u8; 64]) -> Result<(), DeviceFault>
-        ensures { Tearing (Self.ReadSlots.slots self.old) (Self.ReadSlots.powered self.old) index bytes.now result (Self.ReadSlots.slots self.new) (Self.ReadSlots.powered self.new) };
+    fn write(&mut self, index: usize, bytes: &[u8; SLOT_SIZE]) -> Result<(), DeviceFault>
+        ensures { Tearing (Self.ReadSlots.state self.old) index bytes.now result (Self.ReadSlots.state self.new) };
 
     fn restart(&mut self) -> Result<(), DeviceFault>
-        ensures { Restarting (Self.ReadSlots.slots self.old) result (Self.ReadSlots.slots self.new) (Self.ReadSlots.powered self.new) };
+        ensures { Restarting (Self.ReadSlots.state self.old) result (Self.ReadSlots.state self.new) };
 }

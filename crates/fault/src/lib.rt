@@ -56,6 +56,7 @@ pub struct Halt {
 }
 
 /// Why a call was declined.
+// The fields of a `Halt`, and no `Halt` inside: a fault is read by its parts, in the order in which it is printed.
 #[derive(Clone, Copy, PartialEq, Eq, Debug)]
 pub struct Fault {
     pub refusal: Refusal,
@@ -69,13 +70,15 @@ pub struct Fault {
 }
 
 /// The layer that a refusal comes from.
-pub fn layer_of(refusal: Refusal) -> Layer
-    ensures { result ≡ layer_of refusal }
-{
-    match refusal {
-        Refusal::BadHead | Refusal::BadLink | Refusal::Uncovered => Layer::Chain,
-        Refusal::NoPower | Refusal::NoSuchSlot => Layer::Device,
-        _ => Layer::Server,
+impl From<Refusal> for Layer {
+    ghost from_gives = { λ refusal layer. layer ≡ layer_of refusal };
+
+    fn from(refusal: Refusal) -> Layer {
+        match refusal {
+            Refusal::BadHead | Refusal::BadLink | Refusal::Uncovered => Layer::Chain,
+            Refusal::NoPower | Refusal::NoSuchSlot => Layer::Device,
+            _ => Layer::Server,
+        }
     }
 }
 
@@ -118,7 +121,7 @@ impl Halt {
         Fault {
             refusal: self.refusal,
             call,
-            layer: layer_of(self.refusal),
+            layer: Layer::from(self.refusal),
             place: self.place,
             step: self.step,
         }
@@ -179,7 +182,7 @@ impl fmt::Display for Fault {
             place,
             step,
         } = *self;
-        let number = refusal.number();
+        let number = u8::from(refusal);
         match step {
             Some(step) => write!(
                 f,

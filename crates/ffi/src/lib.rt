@@ -11,7 +11,7 @@ ghost use Rattle.hmacseal.specs.Meaning.{sealed_bytes as hmacSealed};
 
 use chachaseal::ChaChaSealer;
 use hmacseal::HmacSealer;
-use sealer::Sealer;
+use sealer::{HEADING, Sealer};
 
 /// Fills `out` with the ChaCha20 block of `key`, `counter` and `nonce`.
 #[unsafe(no_mangle)]
@@ -39,7 +39,7 @@ pub extern "C" fn fishqalgo_sha256(message: &[u8], out: &mut [u8; 32])
 #[unsafe(no_mangle)]
 pub extern "C" fn fishqalgo_chacha_seal(
     key: &[u8; 32],
-    heading: &[u8; 20],
+    heading: &[u8; HEADING],
     plain: &[u8],
     out: &mut [u8],
     pad: &mut [u8; 64],
@@ -49,14 +49,14 @@ pub extern "C" fn fishqalgo_chacha_seal(
     ensures wiped { pad.new ≡ zeros 64 }
 {
     let sealed = ChaChaSealer.seal(key, heading, plain, out, pad);
-    sealed.unwrap_or(0)
+    sealed.unwrap_or(0) // the C names and their answers stay: a length, or 0 where it is declined
 }
 
 /// Seals `plain` with sealer 2, as above.
 #[unsafe(no_mangle)]
 pub extern "C" fn fishqalgo_hmac_seal(
     key: &[u8; 32],
-    heading: &[u8; 20],
+    heading: &[u8; HEADING],
     plain: &[u8],
     out: &mut [u8],
     pad: &mut [u8; 64],
@@ -66,5 +66,5 @@ pub extern "C" fn fishqalgo_hmac_seal(
     ensures wiped { pad.new ≡ zeros 64 }
 {
     let sealed = HmacSealer.seal(key, heading, plain, out, pad);
-    sealed.unwrap_or(0)
+    sealed.unwrap_or(0) // the C names and their answers stay: a length, or 0 where it is declined
 }

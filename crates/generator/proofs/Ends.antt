@@ -1,5 +1,5 @@
 -- Where a descent ends.
-use Rattle.std.proofs.Common.{◌≡◌, ℕ, ◌-◌, List, ◌++◌, length, drop, map, replicate, sym, ap, ◌∙◌, arith}
+use Rattle.std.proofs.Common.{◌≡◌, ℕ, ◌-◌, List, ◌++◌, length, drop, replicate, ap, ◌∙◌, arith}
 use Rattle.std.proofs.lemmas.List.{drop-replicate, length-map}
 use Rattle.octets.specs.Buffers.{zeros}
 use Rattle.tree.specs.declared.Node.{Node}
@@ -26,8 +26,5 @@ descended g d x n before calls after i r c =
 pub row_kept : (g : Expansion) (d : ℕ) (x : Node) (n : ℕ) (v : List ℕ) (row : List (List ℕ)) (k : ℕ) → Above d x n → k ≡ d - x.depth →
     row ≡ besides g k n v ++ drop k (replicate most_levels (zeros value_length)) → row ≡ row_of (sibling_values g d x v n)
 row_kept g d x n v row k i q r =
-    let f = value_from g d x v in
-    let b : besides g k n v ≡ map f (siblings_on x.depth k x.first n) = besides_are g d k n v x (omega (arith, i.is_node.shallow)) i.is_node i.covers in
-    let l : k ≡ length (besides g k n v) = sym (ap length b ∙ length-map (siblings_on x.depth k x.first n) f ∙ length_siblings x.depth k x.first n) in
-    r ∙ ap (λ (w : List (List ℕ)). besides g k n v ++ w) (drop-replicate k most_levels (zeros value_length) ∙ ap (λ (j : ℕ). replicate (most_levels - j) (zeros value_length)) l)
-    ∙ ap row_of (b ∙ ap (λ (j : ℕ). map f (siblings_on x.depth j x.first n)) q)
+    let b = besides_are g d k n v x (omega (arith, i.is_node.shallow)) i.is_node i.covers in
+    rw (← q, length-map (siblings_on x.depth k x.first n) (value_from g d x v), length_siblings, r, b, drop-replicate k most_levels (zeros value_length))

@@ -5,6 +5,7 @@ use Rattle.chacha.specs.Cipher.{block_of}
 use Rattle.sha.specs.Digest.{sha256}
 use Rattle.tree.specs.Values.{Expansion}
 use Rattle.generator.specs.Bytes.{value_length}
+use Rattle.generator.specs.Meaning.{GeneratorMeaning}
 
 -- one ChaCha20 block, keyed with the parent's value, where counter and nonce are zero
 abbrev pub child_block : List ℕ → List ℕ
@@ -18,9 +19,9 @@ chacha_expansion = record { left = λ v. take value_length (child_block v); righ
 abbrev pub sha_expansion : Expansion
 sha_expansion = record { left = λ v. sha256 (v ++ 0 ∷ []); right = λ v. sha256 (v ++ 1 ∷ []) }
 
--- the numbers that a key file knows them by
-abbrev pub chacha_code : ℕ
-chacha_code = 1
+-- the numbers that a key file knows them by are 1 and 2
+abbrev pub chacha_meaning : GeneratorMeaning
+chacha_meaning = record { expansion = chacha_expansion; number = 1 }
 
-abbrev pub sha_code : ℕ
-sha_code = 2
+abbrev pub sha_meaning : GeneratorMeaning
+sha_meaning = record { expansion = sha_expansion; number = 2 }

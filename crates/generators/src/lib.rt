@@ -1,16 +1,16 @@
 //! The two named generators.
 #![tactic(auto)]
 
-ghost use Rattle.std.specs.Prelude.{◌≡◌, ◌<◌, [], ◌∷◌, ◌++◌, length};
+ghost use Rattle.std.specs.Prelude.{◌≡◌, ℕ, ◌<◌, List, [], ◌∷◌, ◌++◌, length};
 ghost use Rattle.std.proofs.Common.{◌∙◌, arith, length-drop, rules};
-ghost use Rattle.sha.specs.Digest.{sha256};
-ghost use Rattle.generators.specs.Named.{chacha_expansion, sha_expansion, chacha_code, sha_code, child_block};
+ghost use Rattle.std.proofs.ByRecursion.{All-take, All-drop};
 ghost use Rattle.std.proofs.lemmas.List.{length-take-le};
 ghost use Rattle.octets.specs.Buffers.{zeros};
-ghost use Rattle.chacha.proofs.Blocks.{block_long, block_bytes};
-ghost use Rattle.std.proofs.ByRecursion.{All-take, All-drop};
 ghost use Rattle.octets.proofs.Small.{each_small};
+ghost use Rattle.chacha.proofs.Blocks.{block_long, block_bytes};
+ghost use Rattle.sha.specs.Digest.{sha256};
 ghost use Rattle.sha.proofs.Digests.{digest_long, digest_bytes};
+ghost use Rattle.generators.specs.Named.{chacha_meaning, sha_meaning, child_block};
 
 use generator::{Generator, Value};
 use sha::Sha256;
@@ -26,19 +26,16 @@ const SHA: u8 = 2;
 pub struct ChaChaGenerator;
 
 impl Generator for ChaChaGenerator {
-    ghost expansion = { λ _. chacha_expansion };
+    ghost meaning = { λ _. chacha_meaning };
 
-    ghost code = { λ _. chacha_code };
-
-    ghost small = { Prim.search rules };
-
-    ghost long = { λ g v l.
-        let k : length (child_block v) ≡ 64 = block_long v 0 (zeros 12) in
-        (length-take-le 32 (child_block v) (omega arith), length-drop 32 (child_block v) ∙ omega arith) };
-
-    ghost bytes = { λ g v b.
-        let a = block_bytes v 0 (zeros 12) in
-        (each_small _ (All-take (λ b. b < 256) 32 (child_block v) a), each_small _ (All-drop (λ b. b < 256) 32 (child_block v) a)) };
+    ghost lawful = { λ _.
+        let long : (v : List ℕ) → length (child_block v) ≡ 64 = λ v. block_long v 0 (zeros 12) in
+        record {
+          lengths = record { on_left = λ v _. length-take-le 32 (child_block v) (omega (arith, long v)); on_right = λ v _. length-drop 32 (child_block v) ∙ omega (arith, long v) };
+          one_byte = Prim.search rules;
+          bytes_left = λ v _. each_small _ (All-take (λ b. b < 256) 32 (child_block v) (block_bytes v 0 (zeros 12)));
+          bytes_right = λ v _. each_small _ (All-drop (λ b. b < 256) 32 (child_block v) (block_bytes v 0 (zeros 12)));
+        } };
 
     fn number(&self) -> u8 {
         CHACHA
@@ -55,15 +52,14 @@ impl Generator for ChaChaGenerator {
 pub struct ShaGenerator;
 
 impl Generator for ShaGenerator {
-    ghost expansion = { λ _. sha_expansion };
+    ghost meaning = { λ _. sha_meaning };
 
-    ghost code = { λ _. sha_code };
-
-    ghost small = { Prim.search rules };
-
-    ghost long = { λ g v l. (digest_long (v ++ 0 ∷ []), digest_long (v ++ 1 ∷ [])) };
-
-    ghost bytes = { λ g v b. (each_small _ (digest_bytes (v ++ 0 ∷ [])), each_small _ (digest_bytes (v ++ 1 ∷ []))) };
+    ghost lawful = { λ _. record {
+      lengths = record { on_left = λ v _. digest_long (v ++ 0 ∷ []); on_right = λ v _. digest_long (v ++ 1 ∷ []) };
+      one_byte = Prim.search rules;
+      bytes_left = λ v _. each_small _ (digest_bytes (v ++ 0 ∷ []));
+      bytes_right = λ v _. each_small _ (digest_bytes (v ++ 1 ∷ []));
+    } };
 
     fn number(&self) -> u8 {
         SHA

@@ -43,9 +43,6 @@ long_block k w over e =
     let t : leb (length k) 64 ≡ false = lt-leb (length k) 64 over in
     rw (t, digest_long k) e
 
-pub front_of_digest : (m : List ℕ) → take 32 (sha256 m ++ replicate 32 0) ≡ sha256 m
-front_of_digest m = take_at (sha256 m) (replicate 32 0) 32 (digest_long m)
-
 pub masked_again : (bs : List ℕ) → masked 0x6a (masked 0x36 bs) ≡ masked 0x5c bs
 masked_again bs = masked_twice 0x36 0x6a bs
 

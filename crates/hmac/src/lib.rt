@@ -77,13 +77,13 @@ impl Hmac {
     }
 
     /// Writes the MAC of what was fed to the start of a block, and zeros after it, for a MAC that is key material.
-    #[tactic(auto, using(crate::proofs::Macs::front_of_digest), unfolding(crate::specs::Mac::hmac))]
-    pub fn finish_block(mut self, out: &mut [u8; 64])
+    // As sha's does: a trait for both would be longer than these three lines.
+    pub fn finish_block(self, out: &mut [u8; 64])
         ensures { out.new ≡ hmac self.key self.message ++ replicate 32 0 }
     {
-        self.inner.finish_block(out);
-        self.outer.update(&out[0..32]);
-        self.outer.finish_block(out);
+        *out = [0; 64];
+        let front = out.first_chunk_mut::<32>().unwrap();
+        self.finish(front);
     }
 }
 

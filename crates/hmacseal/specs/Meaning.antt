@@ -2,7 +2,9 @@
 use Rattle.std.specs.Prelude.{ℕ, List, ◌∷◌, ◌++◌}
 use Rattle.octets.specs.Fields.{bytes_of}
 use Rattle.hmac.specs.Mac.{hmac}
-use Rattle.sealing.specs.Covering.{sealing_of}
+use Rattle.sealer.specs.Meaning.{SealerMeaning}
+use Rattle.sealing.specs.Schemes.{SchemeMeaning}
+use Rattle.sealing.specs.Covering.{sealing_of, sealer_by}
 
 -- the number by which trees name this sealer
 abbrev pub sealer_number : ℕ
@@ -24,6 +26,14 @@ stream_block key i = hmac key (0x01 ∷ bytes_of 4 i)
 unfoldable pub tag_of : List ℕ → List ℕ → List ℕ → List ℕ
 tag_of key heading bytes = hmac key (0x02 ∷ (heading ++ bytes))
 
+-- its keystream and its tag
+abbrev pub scheme : SchemeMeaning
+scheme = record { block = stream_block; size = block_size; tag = tag_of; extra = tag_size }
+
 -- the sealing of a plain: the plain under the keystream, then the tag
 abbrev pub sealed_bytes : List ℕ → List ℕ → List ℕ → List ℕ
-sealed_bytes key heading plain = sealing_of (stream_block key) block_size (tag_of key heading) plain
+sealed_bytes = sealing_of scheme
+
+-- what the sealer means
+abbrev pub sealer : SealerMeaning
+sealer = sealer_by scheme sealer_number

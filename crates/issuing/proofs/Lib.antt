@@ -1,4 +1,2 @@
-pub mod Sealing
 pub mod Ended
-pub mod Surveys
 pub mod Issued

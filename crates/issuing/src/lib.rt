@@ -7,25 +7,25 @@
 ghost use Rattle.std.specs.Prelude.{◌≡◌, ℕ, ◌+◌, ◌-◌, ◌^◌, ◌<◌, ◌≤◌, Bool, true, List, [], ◌++◌, length, replicate, slice_index_or};
 ghost use Rattle.octets.specs.Buffers.{zeros, filled};
 ghost use Rattle.session.specs.Limits.{most_length};
+ghost use Rattle.sealer.specs.Headings.{heading_of};
 ghost use Rattle.layout.specs.Records.{value_of, recounted};
-ghost use Rattle.rules.specs.Tickets.{heading_of, ticket_most};
+ghost use Rattle.rules.specs.Tickets.{ticket_most};
 ghost use Rattle.rules.specs.Kits.{kit_of};
 ghost use Rattle.rules.specs.Calls.{Issuing, kept};
 ghost use Rattle.scratch.specs.Clean.{Clean};
 ghost use Rattle.tree.specs.Nodes.{tree_levels};
-ghost use Rattle.issuing.specs.Ends.{Issuable, IssueEnds, issue_entry};
+ghost use Rattle.issuing.specs.Ends.{Issuable, IssueEnds};
 
 use chain::{Found, LEAVES, read_file};
-use device::{ReadSlots, WriteSlots};
+use device::{ReadSlots, SLOT_SIZE, WriteSlots};
 use fault::{Halt, Step};
-use generator::{Generator, descend};
-use layout::{Head, Numbers, copy_value, recount};
-use marks::room;
+use generator::{Generator, Value, descend};
+use layout::{Head, copy_value, recount};
 use octets::clear;
 use refusal::Refusal;
-use rules::{HEADING, slot_count};
+use rules::{admit, numbers_of};
 use scratch::Scratch;
-use sealer::{OVERHEAD_LIMIT, PLAIN_LIMIT, Sealer, heading};
+use sealer::{HEADING, NAME, OVERHEAD_LIMIT, PLAIN_LIMIT, Sealer, heading};
 use session::is_record;
 use steps::{read_at, write_at};
 use tree::LEVELS;
@@ -39,72 +39,74 @@ pub fn limits_stand()
 {}
 
 // Loads the value of the record in a slot.
-fn load_value<D: ReadSlots>(
-    d: &D,
-    index: u16,
-    slot: &mut [u8; 64],
-    value: &mut [u8; 32],
-) -> Result<(), Halt>
-    requires { (index < length (D.slots d.now)) × (D.powered d.now ≡ true) }
-    ensures { (result ≡ Ok tt) × (value.new ≡ value_of (slice_index_or (D.slots d.now) index [])) }
+fn load_value<D: ReadSlots>(device: &D, index: u16, slot: &mut [u8; SLOT_SIZE], value: &mut Value)
+    requires { (index < length (D.state device.now).slots) × ((D.state device.now).power ≡ true) }
+    ensures { value.new ≡ value_of (slice_index_or (D.state device.now).slots index []) }
 {
-    read_at(d, index, slot)?;
+    read_at(device, index, slot).unwrap();
     copy_value(slot, value);
-    Ok(())
 }
 
 // The head with one number more issued than `issued`, in the lent slot.
-fn next_head<D: ReadSlots>(d: &D, issued: u32, slot: &mut [u8; 64]) -> Result<(), Halt>
-    requires { (0 < length (D.slots d.now)) × ((D.powered d.now ≡ true) × (issued < 2 ^ tree_levels)) }
-    ensures { (result ≡ Ok tt) × (slot.new ≡ recounted (issued + 1) (slice_index_or (D.slots d.now) 0 [])) }
+fn next_head<D: ReadSlots>(device: &D, issued: u32, slot: &mut [u8; SLOT_SIZE])
+    requires { (0 < length (D.state device.now).slots) × (((D.state device.now).power ≡ true) × (issued < 2 ^ tree_levels)) }
+    ensures { slot.new ≡ recounted (issued + 1) (slice_index_or (D.state device.now).slots 0 []) }
 {
-    read_at(d, 0, slot)?;
+    read_at(device, 0, slot).unwrap();
     recount(slot, issued + 1);
-    Ok(())
 }
 
 // Writes the ticket of a number: the heading, and the plain sealed under the key.
 fn seal_ticket<S: Sealer>(
-    s: &S,
-    name: &[u8; 16],
+    sealer: &S,
+    name: &[u8; NAME],
     number: u32,
-    key: &[u8; 32],
+    key: &Value,
     plain: &[u8],
     ticket: &mut [u8],
-    pad: &mut [u8; 64],
+    pad: &mut [u8; SLOT_SIZE],
 ) -> usize
     requires { (ticket_most ≤ length ticket.old) × (length plain.now ≤ most_length) }
-    ensures is { ticket.new ≡ filled (heading_of name.now number ++ S.sealing s.now key.now (heading_of name.now number) plain.now) (length ticket.old) }
-    ensures long { result ≡ length (heading_of name.now number ++ S.sealing s.now key.now (heading_of name.now number) plain.now) }
+    ensures is { ticket.new ≡ filled (heading_of name.now number ++ (S.meaning sealer.now).sealing key.now (heading_of name.now number) plain.now) (length ticket.old) }
+    ensures long { result ≡ length (heading_of name.now number ++ (S.meaning sealer.now).sealing key.now (heading_of name.now number) plain.now) }
 {
-    let mut head = [0; HEADING];
-    heading(name, number, &mut head);
-    ticket[..HEADING].copy_from_slice(&head);
-    HEADING
-        + s.seal(key, &head, plain, &mut ticket[HEADING..], pad)
-            .unwrap()
+    let (head, sealed) = ticket.split_first_chunk_mut::<HEADING>().unwrap();
+    heading(name, number, head);
+    HEADING + sealer.seal(key, head, plain, sealed, pad).unwrap()
 }
 
 // Gives the ticket of the next number, from the record that covers it: the head is written, and only then the ticket.
 fn issue_found<D: WriteSlots, G: Generator, S: Sealer>(
-    d: &mut D,
-    g: &G,
-    s: &S,
+    device: &mut D,
+    generator: &G,
+    sealer: &S,
     head: &Head,
     found: &Found,
     plain: &[u8],
     ticket: &mut [u8],
     scratch: &mut Scratch,
 ) -> Result<(usize, u32), Halt>
-    requires { Issuable (D.slots d.old) (D.powered d.old) head.now found.now plain.now (length ticket.old) }
-    ensures { IssueEnds (kit_of (G.expansion g.now) (G.code g.now) (S.sealing s.now) (S.overhead s.now) (S.number s.now)) (D.slots d.old) head.now found.now plain.now (length ticket.old) result ticket.new (D.slots d.new) (D.powered d.new) }
+    requires { Issuable (D.state device.old) head.now found.now plain.now (length ticket.old) }
+    ensures { IssueEnds (kit_of (G.meaning generator.now) (S.meaning sealer.now)) (D.state device.old).slots head.now found.now plain.now (length ticket.old) result ticket.new (D.state device.new) }
 {
-    load_value(d, found.slot, &mut scratch.slot, &mut scratch.values.value)?;
-    let calls = descend(g, LEVELS, &found.node, head.issued, &mut scratch.values).unwrap();
-    next_head(d, head.issued, &mut scratch.slot)?;
-    write_at(d, 0, &scratch.slot, Step::Head)?;
+    load_value(
+        device,
+        found.slot,
+        &mut scratch.slot,
+        &mut scratch.values.value,
+    );
+    let calls = descend(
+        generator,
+        LEVELS,
+        &found.node,
+        head.issued,
+        &mut scratch.values,
+    )
+    .unwrap();
+    next_head(device, head.issued, &mut scratch.slot);
+    write_at(device, 0, &scratch.slot, Step::Head)?;
     let length = seal_ticket(
-        s,
+        sealer,
         &head.name,
         head.issued,
         &scratch.values.value,
@@ -115,62 +117,58 @@ fn issue_found<D: WriteSlots, G: Generator, S: Sealer>(
     Ok((length, calls))
 }
 
-// What stops an issue before it reads: the buffers, the slot count, the record.
-fn may_issue<D: ReadSlots>(d: &D, plain: &[u8], ticket: usize, marks: usize) -> Result<(), Halt>
-    ensures { result ≡ issue_entry tree_levels (D.slots d.now) plain.now ticket marks }
-{
-    if ticket < TICKET_MOST || marks < room(d.count()) {
-        return Err(Halt::plain(Refusal::ShortBuffer));
-    }
-    slot_count(d)?;
-    if !is_record(plain) {
-        return Err(Halt::plain(Refusal::NotARecord));
-    }
-    Ok(())
-}
-
 // Issues into a ticket buffer that is cleared later where this is stopped.
 fn issue_into<D: WriteSlots, G: Generator, S: Sealer>(
-    d: &mut D,
-    g: &G,
-    s: &S,
+    device: &mut D,
+    generator: &G,
+    sealer: &S,
     plain: &[u8],
     ticket: &mut [u8],
     marks: &mut [u8],
     scratch: &mut Scratch,
 ) -> Result<(usize, u32), Halt>
-    ensures { (headed : Bool) × Issuing (kit_of (G.expansion g.now) (G.code g.now) (S.sealing s.now) (S.overhead s.now) (S.number s.now)) tree_levels (D.slots d.old) (D.powered d.old) plain.now (length ticket.old) (length marks.old) result (kept result (length ticket.old) ticket.new) (D.slots d.new) (D.powered d.new) headed }
+    ensures { (headed : Bool) × Issuing (kit_of (G.meaning generator.now) (S.meaning sealer.now)) tree_levels (D.state device.old) plain.now (length ticket.old) (length marks.old) result (kept result (length ticket.old) ticket.new) (D.state device.new) headed }
 {
-    may_issue(d, plain, ticket.len(), marks.len())?;
-    let numbers = Numbers {
-        generator: g.number(),
-        sealer: s.number(),
-    };
-    let survey = read_file(d, numbers, None, marks, &mut scratch.slot)?;
+    admit(device, TICKET_MOST, ticket.len(), marks.len())?;
+    if !is_record(plain) {
+        return Err(Halt::plain(Refusal::NotARecord));
+    }
+    let numbers = numbers_of(generator, sealer);
+    let survey = read_file(device, numbers, None, marks, &mut scratch.slot)?;
     if survey.head.issued >= LEAVES {
         return Err(Halt::plain(Refusal::Exhausted));
     }
     // a number that is not issued lies under a record
     let found = survey.found.unwrap();
-    issue_found(d, g, s, &survey.head, &found, plain, ticket, scratch)
+    issue_found(
+        device,
+        generator,
+        sealer,
+        &survey.head,
+        &found,
+        plain,
+        ticket,
+        scratch,
+    )
 }
 
 // Ticket, marks and scratch stay apart, here and in redeeming: each has its own length, and its own promise at the end.
 /// Issues the next number's ticket for a state record. For the server alone: it works on a bare device.
 pub fn issue_on<D: WriteSlots, G: Generator, S: Sealer>(
-    d: &mut D,
-    g: &G,
-    s: &S,
+    device: &mut D,
+    generator: &G,
+    sealer: &S,
     plain: &[u8],
     ticket: &mut [u8],
     marks: &mut [u8],
     scratch: &mut Scratch,
 ) -> Result<(usize, u32), Halt>
-    ensures did { (headed : Bool) × Issuing (kit_of (G.expansion g.now) (G.code g.now) (S.sealing s.now) (S.overhead s.now) (S.number s.now)) tree_levels (D.slots d.old) (D.powered d.old) plain.now (length ticket.old) (length marks.old) result ticket.new (D.slots d.new) (D.powered d.new) headed }
+    ensures did { (headed : Bool) × Issuing (kit_of (G.meaning generator.now) (S.meaning sealer.now)) tree_levels (D.state device.old) plain.now (length ticket.old) (length marks.old) result ticket.new (D.state device.new) headed }
     ensures marks { marks.new ≡ zeros (length marks.old) }
     ensures clean { Clean scratch.new }
 {
-    let issued = issue_into(d, g, s, plain, ticket, marks, scratch);
+    let issued = issue_into(device, generator, sealer, plain, ticket, marks, scratch);
+    // The end is as redeeming's: a function for both would take the call as a closure, with clauses longer than these lines.
     if issued.is_err() {
         clear(ticket);
     }

@@ -5,7 +5,8 @@ use Rattle.std.proofs.lemmas.Bool.{cases_lt, lt-ltb, le-ltb}
 use Rattle.device.specs.Effects.{Slot, Slots, blank}
 use Rattle.journal.specs.Layout.{mark_in, copy_in, places_in, pending_in, shown}
 use Rattle.journal.specs.Writes.{Write, write_of, clear_writes_of, clear_writes, stood}
-use Rattle.journal.proofs.Views.{length_shown, length_places_in, parts_of, slot_kept, slot_written, shown_raised, zeros_done, zeros_cut}
+use Rattle.journal.specs.Sized.{length_shown, length_places_in}
+use Rattle.journal.proofs.Views.{parts_of, slot_kept, slot_written, shown_raised, zeros_done, zeros_cut}
 use Rattle.journal.proofs.Runs.{AtEachCut, none, next}
 
 pub clear_none : (s : Slots) → clear_writes_of None s ≡ []
@@ -29,7 +30,7 @@ pub record Settles (s : Slots) (ws : List Write) : Type 0 where
 
 -- zeros to the mark u, where each slot's own place holds what is shown
 zeros_settle : (s u : Slots) → 2 < length u → shown u ≡ shown s → places_in u ≡ shown s → AtEachCut (λ t. shown t ≡ shown s) u (write_of 0 blank ∷ [])
-zeros_settle s u some same places = next (zeros_cut u (shown s) some places same) (none (zeros_done u (shown s) some places))
+zeros_settle s u some same places = next (zeros_cut u some (shown s) places same) (none (zeros_done u some (shown s) places))
 
 zeros_low : (u : Slots) → 2 < length u → pending_in (mark_in (set u 0 blank)) ≡ None
 zeros_low u some = ap pending_in (get_or-set_same u 0 blank [] (omega arith))
@@ -47,7 +48,7 @@ module _ (s : Slots) (i : ℕ) (is : pending_in (mark_in s) ≡ Some i) (some : 
   settles_in : i < length (shown s) → Settles s (write_of (i + 2) (copy_in s) ∷ write_of 0 blank ∷ [])
   settles_in h =
       let at = λ (x : Slot). slot_written (parts_of s some) x i (omega (arith, length_shown s)) in
-      let kept = λ (x : Slot). slot_kept s i x (omega (arith, length_shown s)) is in
+      let kept = λ (x : Slot). slot_kept s some i x (omega (arith, length_shown s)) is in
       let x = copy_in s in
       record { same = next (λ k. kept _) (zeros_settle s (set s (i + 2) x) (at x).long (kept x) ((at x).places ∙ sym was)); low = zeros_low (set s (i + 2) x) (at x).long }
 

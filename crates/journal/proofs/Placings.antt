@@ -4,7 +4,8 @@ use Rattle.device.specs.Effects.{Slot, Slots, torn}
 use Rattle.journal.specs.Layout.{mark_in, mark_of, copy_in, pending_in, shown}
 use Rattle.journal.specs.Writes.{place_writes, stood}
 use Rattle.journal.proofs.Marks.{pending_in_raised, torn_low, torn_raise}
-use Rattle.journal.proofs.Views.{length_shown, Parts, parts_of, mark_written, copy_written, slot_written, shown_low, shown_raised, zeros_done, zeros_cut}
+use Rattle.journal.specs.Sized.{length_shown}
+use Rattle.journal.proofs.Views.{Parts, parts_of, mark_written, copy_written, slot_written, shown_low, shown_raised, zeros_done, zeros_cut}
 use Rattle.journal.proofs.Runs.{AtEachCut, none, next}
 
 -- the bytes of a mark past its flag
@@ -34,7 +35,7 @@ module _ (s : Slots) (i : ℕ) (b : Slot) (within : i < length (shown s)) (low :
   shown_stored x = shown_raised i (stored x) (pending_in_raised i) ∙ set-set (shown s) i x b
 
   pub placed : shown (stood s (place_writes i b)) ≡ set (shown s) i b
-  placed = zeros_done _ (set (shown s) i b) (stored b).long (stored b).places
+  placed = zeros_done _ (stored b).long (set (shown s) i b) (stored b).places
 
   pub placing : AtEachCut (λ t. (shown t ≡ shown s) ⊎ (shown t ≡ set (shown s) i b)) s (place_writes i b)
   placing =
@@ -50,5 +51,5 @@ module _ (s : Slots) (i : ℕ) (b : Slot) (within : i < length (shown s)) (low :
       ]
       )
       (next (λ k. inr (shown_stored _))
-      (next (λ k. inr (zeros_cut _ (set (shown s) i b) (stored b).long (stored b).places (shown_stored b) k))
+      (next (λ k. inr (zeros_cut _ (stored b).long (set (shown s) i b) (stored b).places (shown_stored b) k))
       (none (inr placed))))))

@@ -1,51 +1,51 @@
 -- Writes made one after another.
-use Rattle.std.proofs.Common.{◌≡◌, ℕ, suc, ◌+◌, ◌<◌, Bool, true, List, [], ◌∷◌, ◌++◌, length, get_or, take, drop, set, map, Ok, Err, sym, refl, ap, ◌∙◌, append_assoc, subst, inl, inr, arith, length-set}
+use Rattle.std.proofs.Common.{◌≡◌, ℕ, suc, ◌+◌, ◌<◌, true, List, [], ◌∷◌, ◌++◌, length, get_or, take, drop, set, map, Ok, Err, sym, refl, ap, ◌∙◌, append_assoc, subst, inl, inr, arith}
 use Rattle.std.proofs.Math.Seq.{drop-cons}
 use Rattle.std.proofs.lemmas.Bool.{both_ways}
 use Rattle.std.proofs.lemmas.List.{map-append, map_more, take-append-drop}
+use Rattle.std.proofs.lemmas.List.Sums.{fold-append}
 use Rattle.std.specs.Result.{is_err}
 use Rattle.device.specs.declared.DeviceFault.{DeviceFault}
 use Rattle.device.specs.declared.DeviceFault.TheVariants.{NoSuchSlot, NoPower}
-use Rattle.device.specs.Effects.{Slot, Slots, Answer, Tearing, torn}
+use Rattle.device.specs.Effects.{Slot, Slots, State, Answer, Tearing, torn}
+use Rattle.device.proofs.Writes.{length_written}
 use Rattle.journal.specs.Layout.{shown}
 use Rattle.journal.specs.Writes.{Write, clear_writes, place_writes, Within, stood, CutShort, Ran, WritingBelow}
 
 pub stood_append : (s : Slots) (ws vs : List Write) → stood s (ws ++ vs) ≡ stood (stood s ws) vs
-stood_append s [] vs = refl
-stood_append s (w ∷ ws) vs = stood_append (set s w.slot w.bytes) ws vs
+stood_append = fold-append (λ s w. set s w.slot w.bytes)
 
 pub length_stood : (s : Slots) (ws : List Write) → length (stood s ws) ≡ length s
-length_stood s [] = refl
-length_stood s (w ∷ ws) = length_stood (set s w.slot w.bytes) ws ∙ length-set s w.slot w.bytes
+length_stood = length_written (λ w. w.slot) (λ w. w.bytes)
 
 Within_at : (n : ℕ) (ws vs : List Write) (w : Write) → Within n (ws ++ (w ∷ vs)) → w.slot < n
 Within_at n [] vs w h = h.0
 Within_at n (v ∷ ws) vs w h = Within_at n ws vs w h.1
 
 -- the next write fails
-cut_short : (s u : Slots) (front back : List Write) (w : Write) (on : Bool) (e : DeviceFault) (t : Slots) (on' : Bool) → Within (length s) (front ++ (w ∷ back)) → u ≡ stood s front → on ≡ true → Tearing u on w.slot w.bytes (Err e) t on' → Ran s (front ++ (w ∷ back)) (Err e) t on'
-cut_short s u front back w on NoSuchSlot t on' h at o (inl d) =
+cut_short : (s : Slots) (u : State) (front back : List Write) (w : Write) (e : DeviceFault) (t : State) → Within (length s) (front ++ (w ∷ back)) → u.slots ≡ stood s front → u.power ≡ true → Tearing u w.slot w.bytes (Err e) t → Ran s (front ++ (w ∷ back)) (Err e) t
+cut_short s u front back w NoSuchSlot t h at o (inl d) =
     let z = Within_at (length s) front back w h in absurd (omega (arith, d.0, ap length at, length_stood s front))
-cut_short s u front back w on NoPower t on' h at o (inl d) = absurd (both_ways on d.0.1 o)
-cut_short s u front back w on e t on' h at o (inr d) =
+cut_short s u front back w NoPower t h at o (inl d) = absurd (both_ways u.power d.0.1 o)
+cut_short s u front back w e t h at o (inr d) =
     (d.0, record { front = front; cut = w; back = back; are = refl; standing = d.3.0; few = d.3.1; slots = rw (← at) d.3.2 }, d.4)
 
 -- a row that is gone through: at its k-th write
-module _ {X : Type 0} (f : X → Write) (s : Slots) (xs : List X) (k : ℕ) (d : X) (u : Slots) (at : u ≡ stood s (map f (take k xs))) (h : k < length xs) where
-  pub stood_more : (t : Slots) → t ≡ set u (f (get_or xs k d)).slot (f (get_or xs k d)).bytes → t ≡ stood s (map f (take (k + 1) xs))
+module _ {X : Type 0} (f : X → Write) (s : Slots) (xs : List X) (k : ℕ) (d : X) (u : State) (at : u.slots ≡ stood s (map f (take k xs))) (h : k < length xs) where
+  pub stood_more : (t : Slots) → t ≡ set u.slots (f (get_or xs k d)).slot (f (get_or xs k d)).bytes → t ≡ stood s (map f (take (k + 1) xs))
   stood_more t e = e ∙ ap (λ y. set y (f (get_or xs k d)).slot (f (get_or xs k d)).bytes) at ∙ sym (stood_append s (map f (take k xs)) (f (get_or xs k d) ∷ [])) ∙ ap (stood s) (sym (map_more f xs k d h))
 
   around : map f (take k xs) ++ (f (get_or xs k d) ∷ map f (drop (suc k) xs)) ≡ map f xs
   around = sym (map-append f (take k xs) (get_or xs k d ∷ drop (suc k) xs)) ∙ ap (λ y. map f (take k xs ++ y)) (sym (drop-cons xs k d h)) ∙ ap (map f) (take-append-drop k xs)
 
-  pub ran_short : (on : Bool) (e : DeviceFault) (t : Slots) (on' : Bool) → Within (length s) (map f xs) → on ≡ true → Tearing u on (f (get_or xs k d)).slot (f (get_or xs k d)).bytes (Err e) t on' → Ran s (map f xs) (Err e) t on'
-  ran_short on e t on' w o c =
-      rw (← around) (cut_short s u (map f (take k xs)) (map f (drop (suc k) xs)) (f (get_or xs k d)) on e t on' (rw around w) at o c)
+  pub ran_short : (e : DeviceFault) (t : State) → Within (length s) (map f xs) → u.power ≡ true → Tearing u (f (get_or xs k d)).slot (f (get_or xs k d)).bytes (Err e) t → Ran s (map f xs) (Err e) t
+  ran_short e t w o c =
+      rw (← around) (cut_short s u (map f (take k xs)) (map f (drop (suc k) xs)) (f (get_or xs k d)) e t (rw around w) at o c)
 
 -- the first writes done, and then the others
-ran_then : (s : Slots) (ws vs : List Write) (r : Answer) (t : Slots) (q : Bool) → Ran (stood s ws) vs r t q → Ran s (ws ++ vs) r t q
-ran_then s ws vs (Ok _) t q d = rw stood_append d
-ran_then s ws vs (Err e) t q d =
+ran_then : (s : Slots) (ws vs : List Write) (r : Answer) (t : State) → Ran (stood s ws) vs r t → Ran s (ws ++ vs) r t
+ran_then s ws vs (Ok _) t d = rw stood_append d
+ran_then s ws vs (Err e) t d =
     let c = d.1 in
     let are = ap (λ x. ws ++ x) c.are ∙ sym (append_assoc ws c.front (c.cut ∷ c.back)) in
     (d.0, record { front = ws ++ c.front; cut = c.cut; back = c.back; are = are; standing = c.standing; few = c.few; slots = rw stood_append c.slots }, d.2)
@@ -72,9 +72,9 @@ AtEachCut_cut (v ∷ front) back w m (next f h) = AtEachCut_cut front back w m h
 pub AtEachCut_short : {P : Slots → Type 0} {s : Slots} {ws : List Write} {t : Slots} → AtEachCut P s ws → CutShort s ws t → P t
 AtEachCut_short {P} {s} h c = subst P (sym c.slots) (AtEachCut_cut c.front c.back c.cut c.standing (subst (λ ws. AtEachCut P s ws) c.are h))
 
-pub AtEachCut_ran : {P : Slots → Type 0} {s : Slots} {ws : List Write} (r : Answer) (t : Slots) (q : Bool) → AtEachCut P s ws → Ran s ws r t q → P t
-AtEachCut_ran {P} (Ok _) t q h d = subst P (sym d.0) (AtEachCut_done h)
-AtEachCut_ran (Err e) t q h d = AtEachCut_short h d.1
+pub AtEachCut_ran : {P : Slots → Type 0} {s : Slots} {ws : List Write} (r : Answer) (t : State) → AtEachCut P s ws → Ran s ws r t → P t.slots
+AtEachCut_ran {P} (Ok _) t h d = subst P (sym d.0) (AtEachCut_done h)
+AtEachCut_ran (Err e) t h d = AtEachCut_short h d.1
 
 pub at_each_cut_append : {P : Slots → Type 0} {s : Slots} (ws vs : List Write) → AtEachCut P s ws → AtEachCut P (stood s ws) vs → AtEachCut P s (ws ++ vs)
 at_each_cut_append [] vs a b = b
@@ -89,12 +89,12 @@ within_append n [] vs a b = b
 within_append n (w ∷ ws) vs a b = (a.0, within_append n ws vs a.1 b)
 
 -- clearing, and then placing
-pub write_done : (s : Slots) (on : Bool) (i : ℕ) (b : Slot) (r : Answer) (t : Slots) (q : Bool) → i < length (shown s) → on ≡ true → Ran (stood s (clear_writes s)) (place_writes i b) r t q → WritingBelow s on i b r t q
-write_done s on i b (Ok u) t q h o d = (h, o, ran_then s (clear_writes s) (place_writes i b) (Ok u) t q d)
-write_done s on i b (Err e) t q h o d = inr (h, o, ran_then s (clear_writes s) (place_writes i b) (Err e) t q d)
+pub write_done : (s : State) (i : ℕ) (b : Slot) (r : Answer) (t : State) → i < length (shown s.slots) → s.power ≡ true → Ran (stood s.slots (clear_writes s.slots)) (place_writes i b) r t → WritingBelow s i b r t
+write_done s i b (Ok u) t h o d = (h, o, ran_then s.slots (clear_writes s.slots) (place_writes i b) (Ok u) t d)
+write_done s i b (Err e) t h o d = inr (h, o, ran_then s.slots (clear_writes s.slots) (place_writes i b) (Err e) t d)
 
-pub write_cut : (s : Slots) (on : Bool) (i : ℕ) (b : Slot) (r : Answer) (t : Slots) (q : Bool) → is_err r ≡ true → i < length (shown s) → on ≡ true → Ran s (clear_writes s) r t q → WritingBelow s on i b r t q
-write_cut s on i b (Ok _) t q e h o d = absurd cc
-write_cut s on i b (Err x) t q e h o d = inr (h, o, (d.0, cut_more s (clear_writes s) (place_writes i b) t d.1, d.2))
+pub write_cut : (s : State) (i : ℕ) (b : Slot) (r : Answer) (t : State) → is_err r ≡ true → i < length (shown s.slots) → s.power ≡ true → Ran s.slots (clear_writes s.slots) r t → WritingBelow s i b r t
+write_cut s i b (Ok _) t e h o d = absurd cc
+write_cut s i b (Err x) t e h o d = inr (h, o, (d.0, cut_more s.slots (clear_writes s.slots) (place_writes i b) t.slots d.1, d.2))
 
 pub ruleset steps = (write_done, write_cut, length_stood)

@@ -1,7 +1,7 @@
 -- How a journal lies in the slots below it, and which slots it shows. The lowest two below are the mark and the copy; the journal's own
 -- slots have their places after these, from slot 2 on.
 use Rattle.std.specs.Prelude.{ℕ, zero, suc, ◌+◌, ◌*◌, ◌/◌, ◌%◌, [], ◌∷◌, take, drop, replicate, Some, None, Option, slice_index, slice_index_or, slice_set}
-use Rattle.device.specs.Effects.{Slot, Slots}
+use Rattle.device.specs.Effects.{Slot, Slots, State}
 
 -- a journal shows at most so many slots
 abbrev pub most_slots : ℕ
@@ -42,3 +42,7 @@ view (Some i) places copy = slice_set places i copy
 -- the slots that the journal shows: slot i is the copy where that stands for it, else what its own place holds
 abbrev pub shown : Slots → Slots
 shown s = view (pending_in (mark_in s)) (places_in s) (copy_in s)
+
+-- and as a device: its power is that of the device below
+abbrev pub state_shown : State → State
+state_shown s = record s { slots = shown s.slots }

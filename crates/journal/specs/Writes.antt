@@ -1,8 +1,9 @@
 -- The writes that a journal's calls make to the slots below it, and what those hold once some of the writes stand.
-use Rattle.std.specs.Prelude.{◌≡◌, ℕ, ◌+◌, ◌<◌, ◌≤◌, Bool, true, false, cond, ◌⊎◌, List, [], ◌∷◌, ◌++◌, length, Some, None, Ok, Err, Option, nat_lt, slice_index_or, slice_set}
+use Rattle.std.specs.Prelude.{◌≡◌, ℕ, ◌+◌, ◌<◌, ◌≤◌, true, false, cond, ◌⊎◌, List, [], ◌∷◌, ◌++◌, length, Some, None, Ok, Err, Option, nat_lt, slice_index_or, slice_set}
+use Rattle.std.specs.List.{fold}
 use Rattle.device.specs.declared.DeviceFault.TheVariants.{NoPower}
-use Rattle.device.specs.Effects.{Slot, Slots, Answer, Declined, slot_size, blank, torn}
-use Rattle.journal.specs.Layout.{mark_in, copy_in, mark_of, pending_in, shown}
+use Rattle.device.specs.Effects.{Slot, Slots, State, Answer, Declined, slot_size, blank, torn}
+use Rattle.journal.specs.Layout.{mark_in, copy_in, mark_of, pending_in, shown, state_shown}
 
 -- to which slot below, and which bytes
 pub record Write : Type 0 where
@@ -37,8 +38,7 @@ restart_writes s = cond (nat_lt 0 (length (shown s))) (clear_writes s) []
 -- ---- what they do
 -- the slots once all of the writes stand
 abbrev pub stood : Slots → List Write → Slots
-stood s [] = s
-stood s (w ∷ ws) = stood (slice_set s w.slot w.bytes) ws
+stood = fold (λ s w. slice_set s w.slot w.bytes)
 
 -- the power fails at one of the writes: all before it stand, its own first bytes do, and none after it is tried
 pub record CutShort (s : Slots) (ws : List Write) (t : Slots) : Type 0 where
@@ -50,10 +50,10 @@ pub record CutShort (s : Slots) (ws : List Write) (t : Slots) : Type 0 where
   pub few : standing ≤ slot_size
   pub slots : t ≡ slice_set (stood s front) cut.slot (torn standing (slice_index_or (stood s front) cut.slot []) cut.bytes)
 
--- the writes made one after another, with the power on: all are done, or it fails at one
-abbrev pub Ran : Slots → List Write → Answer → Slots → Bool → Type 0
-Ran s ws (Ok _) t on' = (t ≡ stood s ws) × (on' ≡ true)
-Ran s ws (Err e) t on' = (e ≡ NoPower) × CutShort s ws t × (on' ≡ false)
+-- the writes made one after another from the slots s on, with the power on: all are done, or it fails at one
+abbrev pub Ran : Slots → List Write → Answer → State → Type 0
+Ran s ws (Ok _) t = (t.slots ≡ stood s ws) × (t.power ≡ true)
+Ran s ws (Err e) t = (e ≡ NoPower) × CutShort s ws t.slots × (t.power ≡ false)
 
 -- each goes to one of n slots
 abbrev pub Within : ℕ → List Write → Type 0
@@ -62,13 +62,13 @@ Within n (w ∷ ws) = (w.slot < n) × Within n ws
 
 -- ---- the calls
 -- a write of b to slot i, seen below: its writes are made; or it is declined, and nothing changes
-abbrev pub WritingBelow : Slots → Bool → ℕ → Slot → Answer → Slots → Bool → Type 0
-WritingBelow s on i b (Ok u) t on' = (i < length (shown s)) × (on ≡ true) × Ran s (slot_writes s i b) (Ok u) t on'
-WritingBelow s on i b (Err e) t on' =
-    (Declined (shown s) on i e × (t ≡ s) × (on' ≡ on))
-    ⊎ ((i < length (shown s)) × (on ≡ true) × Ran s (slot_writes s i b) (Err e) t on')
+abbrev pub WritingBelow : State → ℕ → Slot → Answer → State → Type 0
+WritingBelow s i b (Ok u) t = (i < length (shown s.slots)) × (s.power ≡ true) × Ran s.slots (slot_writes s.slots i b) (Ok u) t
+WritingBelow s i b (Err e) t =
+    (Declined (state_shown s) i e × (t ≡ s))
+    ⊎ ((i < length (shown s.slots)) × (s.power ≡ true) × Ran s.slots (slot_writes s.slots i b) (Err e) t)
 
--- a restart, seen below: its writes are made; or the power fails before the first, and nothing changes
-abbrev pub RestartingBelow : Slots → Answer → Slots → Bool → Type 0
-RestartingBelow s (Ok u) t on' = Ran s (restart_writes s) (Ok u) t on'
-RestartingBelow s (Err e) t on' = ((e ≡ NoPower) × (t ≡ s) × (on' ≡ false)) ⊎ Ran s (restart_writes s) (Err e) t on'
+-- a restart, seen below: its writes are made; or the power fails before the first, and no slot changes
+abbrev pub RestartingBelow : State → Answer → State → Type 0
+RestartingBelow s (Ok u) t = Ran s.slots (restart_writes s.slots) (Ok u) t
+RestartingBelow s (Err e) t = ((e ≡ NoPower) × (t.slots ≡ s.slots) × (t.power ≡ false)) ⊎ Ran s.slots (restart_writes s.slots) (Err e) t

@@ -7,12 +7,13 @@
 
 ghost use Rattle.std.specs.Prelude.{◌≡◌, ◌+◌, ◌<◌, ◌≤◌, true, false, length, map, Some, None, MatchOption, MatchResult};
 ghost use Rattle.device.specs.Effects.{Writing, Restarting, slot_size, blank};
-ghost use Rattle.journal.specs.Layout.{shown, most_slots, mark_of, mark_in, pending_in, unused_in};
+ghost use Rattle.journal.specs.Layout.{shown, state_shown, most_slots, mark_of, mark_in, pending_in, unused_in};
 ghost use Rattle.journal.specs.Ends.{WritingEnds, RestartingEnds};
 ghost use Rattle.journal.specs.Sized.{shown_sized};
 ghost use Rattle.journal.specs.Writes.{write_of, clear_writes, place_writes, Within, Ran, WritingBelow, RestartingBelow};
 
-use device::{DeviceFault, ReadSlots, TearSlots, WriteSlots, blank_slot};
+use device::{DeviceFault, ReadSlots, SLOT_SIZE, TearSlots, WriteSlots, blank_slot};
+use std::marker::Model;
 
 /// The slots that a journal shows at most.
 pub const MOST_SLOTS: usize = 1024;
@@ -31,28 +32,37 @@ const RAISED: u8 = 1;
 const LOWERED: u8 = 0;
 
 // A write below: to which slot, and its bytes.
-type RawWrite<'a> = (usize, &'a [u8; 64]);
+type RawWrite<'a> = (usize, &'a [u8; SLOT_SIZE]);
 
 /// A journal over the device `below`. The pad is for a copy on its way; it holds zeros outside the calls.
+#[derive(Drop)]
 pub struct Journal<D> {
     below: D,
-    pad: [u8; 64],
+    pad: [u8; SLOT_SIZE],
+}
+
+impl<D> Model for Journal<D> {
+    ghost Value = { D };
+
+    ghost view = { λ j. j.below };
+
+    ghost invariant = { λ j. j.pad ≡ blank };
 }
 
 impl<D> Journal<D> {
     /// A journal over a device, with what that holds.
     pub fn new(below: D) -> Journal<D>
-        ensures { (result.below ≡ below) × (result.pad ≡ blank) }
+        ensures { result ≡ below }
     {
         Journal {
             below,
-            pad: [0; 64],
+            pad: blank_slot(),
         }
     }
 
     /// The device below.
     pub fn into_below(self) -> D
-        ensures { result ≡ self.below }
+        ensures { result ≡ self }
     {
         let Journal { below, pad: _ } = self;
         below
@@ -60,29 +70,29 @@ impl<D> Journal<D> {
 }
 
 // The slot that a mark's copy stands for.
-fn target_of(mark: &[u8; 64]) -> Option<usize>
+fn target_of(mark: &[u8; SLOT_SIZE]) -> Option<usize>
     ensures { result ≡ pending_in mark.now }
 {
-    (mark[0] == RAISED).then(|| u16::from_be_bytes([mark[1], mark[2]]) as usize)
+    (mark[0] == RAISED).then(|| usize::from(u16::from_be_bytes([mark[1], mark[2]])))
 }
 
 // The slot that the copy below stands for.
 fn pending<D: ReadSlots>(d: &D) -> Result<Option<usize>, DeviceFault>
-    requires { 2 < length (D.ReadSlots.slots d.now) }
-    ensures { MatchResult result (λ o. (D.ReadSlots.powered d.now ≡ true) × (o ≡ pending_in (mark_in (D.ReadSlots.slots d.now)))) (λ e. (e ≡ DeviceFault.NoPower) × (D.ReadSlots.powered d.now ≡ false)) }
+    requires { 2 < length (D.state d.now).slots }
+    ensures { MatchResult result (λ o. ((D.state d.now).power ≡ true) × (o ≡ pending_in (mark_in (D.state d.now).slots))) (λ e. (e ≡ DeviceFault.NoPower) × ((D.state d.now).power ≡ false)) }
 {
-    let mut mark = [0; 64];
+    let mut mark = blank_slot();
     d.read(MARK, &mut mark)?;
     Ok(target_of(&mark))
 }
 
 // A mark with a flag and a target.
-fn mark_with(flag: u8, target: usize) -> [u8; 64]
+fn mark_with(flag: u8, target: usize) -> [u8; SLOT_SIZE]
     requires { target < most_slots }
     ensures { result ≡ mark_of flag target }
 {
     let [high, low] = (target as u16).to_be_bytes();
-    let mut mark = [0; 64];
+    let mut mark = blank_slot();
     mark[..3].copy_from_slice(&[flag, high, low]);
     mark
 }
@@ -90,17 +100,17 @@ fn mark_with(flag: u8, target: usize) -> [u8; 64]
 // How many slots are shown over a device.
 #[tactic(auto, using(crate::proofs::Views::lengths))]
 fn shown_count<D: ReadSlots>(d: &D) -> usize
-    ensures count { result ≡ length (shown (D.ReadSlots.slots d.now)) }
-    ensures bound { (result ≤ most_slots) × ((0 < result → result + 2 ≤ length (D.ReadSlots.slots d.now))) }
+    ensures count { result ≡ length (shown (D.state d.now).slots) }
+    ensures bound { (result ≤ most_slots) × ((0 < result → result + 2 ≤ length (D.state d.now).slots)) }
 {
     d.count().saturating_sub(FIRST).min(MOST_SLOTS)
 }
 
 // Makes writes below in their order, until the power fails at one. That the power is on is asked for, and no type says it: a cut ends it.
 fn run<D: TearSlots>(d: &mut D, writes: &[RawWrite]) -> Result<(), DeviceFault>
-    requires on { D.ReadSlots.powered d.old ≡ true }
-    requires within { Within (length (D.ReadSlots.slots d.old)) (map (λ w. write_of w.0 w.1.now) writes.now) }
-    ensures { Ran (D.ReadSlots.slots d.old) (map (λ w. write_of w.0 w.1.now) writes.now) result (D.ReadSlots.slots d.new) (D.ReadSlots.powered d.new) }
+    requires on { (D.ReadSlots.state d.old).power ≡ true }
+    requires within { Within (length (D.ReadSlots.state d.old).slots) (map (λ w. write_of w.0 w.1.now) writes.now) }
+    ensures { Ran (D.ReadSlots.state d.old).slots (map (λ w. write_of w.0 w.1.now) writes.now) result (D.ReadSlots.state d.new) }
 {
     for (slot, bytes) in writes {
         d.write(*slot, bytes)?;
@@ -109,10 +119,10 @@ fn run<D: TearSlots>(d: &mut D, writes: &[RawWrite]) -> Result<(), DeviceFault>
 }
 
 // Puts bytes in a slot by five writes, where no flag is raised.
-fn place<D: TearSlots>(d: &mut D, index: usize, bytes: &[u8; 64]) -> Result<(), DeviceFault>
-    requires on { D.ReadSlots.powered d.old ≡ true }
-    requires within { (index + 2 < length (D.ReadSlots.slots d.old)) × (index < most_slots) }
-    ensures { Ran (D.ReadSlots.slots d.old) (place_writes index bytes.now) result (D.ReadSlots.slots d.new) (D.ReadSlots.powered d.new) }
+fn place<D: TearSlots>(d: &mut D, index: usize, bytes: &[u8; SLOT_SIZE]) -> Result<(), DeviceFault>
+    requires on { (D.ReadSlots.state d.old).power ≡ true }
+    requires within { (index + 2 < length (D.ReadSlots.state d.old).slots) × (index < most_slots) }
+    ensures { Ran (D.ReadSlots.state d.old).slots (place_writes index bytes.now) result (D.ReadSlots.state d.new) }
 {
     let targeted = mark_with(LOWERED, index);
     let raised = mark_with(RAISED, index);
@@ -128,19 +138,17 @@ fn place<D: TearSlots>(d: &mut D, index: usize, bytes: &[u8; 64]) -> Result<(), 
 }
 
 impl<D: ReadSlots> ReadSlots for Journal<D> {
-    ghost slots = { λ s. shown (D.ReadSlots.slots s.below) };
+    ghost state = { λ d. state_shown (D.state d) };
 
-    ghost powered = { λ s. D.ReadSlots.powered s.below };
-
-    ghost sized = { λ s k h. shown_sized slot_size (D.ReadSlots.slots s.below) (D.ReadSlots.sized s.below) k h };
+    ghost sized = { λ d k h. shown_sized slot_size (D.state d).slots (D.sized d) k h };
 
     fn count(&self) -> usize {
         shown_count(&self.below)
     }
 
     #[tactic(auto, using(crate::proofs::Readings::reading))]
-    fn read(&self, index: usize, out: &mut [u8; 64]) -> Result<(), DeviceFault> {
-        *out = [0; 64];
+    fn read(&self, index: usize, out: &mut [u8; SLOT_SIZE]) -> Result<(), DeviceFault> {
+        *out = blank_slot();
         if index >= shown_count(&self.below) {
             return Err(DeviceFault::NoSuchSlot);
         }
@@ -157,11 +165,10 @@ impl<D: TearSlots> Journal<D> {
     // nothing is left there.
     #[tactic(auto, using(crate::proofs::Clearings::clearing))]
     fn clear(&mut self, pending: Option<usize>) -> Result<(), DeviceFault>
-        requires on { D.ReadSlots.powered self.old.below ≡ true }
-        requires pending { pending ≡ pending_in (mark_in (D.ReadSlots.slots self.old.below)) }
-        requires some { 2 < length (D.ReadSlots.slots self.old.below) }
-        ensures step { Ran (D.ReadSlots.slots self.old.below) (clear_writes (D.ReadSlots.slots self.old.below)) result (D.ReadSlots.slots self.new.below) (D.ReadSlots.powered self.new.below) }
-        ensures wiped { MatchOption pending (self.new.pad ≡ self.old.pad) (λ _. self.new.pad ≡ blank) }
+        requires on { (D.ReadSlots.state self.old).power ≡ true }
+        requires pending { pending ≡ pending_in (mark_in (D.ReadSlots.state self.old).slots) }
+        requires some { 2 < length (D.ReadSlots.state self.old).slots }
+        ensures step { Ran (D.ReadSlots.state self.old).slots (clear_writes (D.ReadSlots.state self.old).slots) result (D.ReadSlots.state self.new) }
     {
         let Some(target) = pending else {
             return Ok(());
@@ -174,15 +181,14 @@ impl<D: TearSlots> Journal<D> {
         } else {
             run(below, &[(MARK, &zeros)])
         };
-        *pad = [0; 64];
+        *pad = blank_slot();
         done
     }
 
     // A write, and what it does below.
     #[tactic(auto, using(crate::proofs::Runs::steps))]
-    fn write_below(&mut self, index: usize, bytes: &[u8; 64]) -> Result<(), DeviceFault>
-        ensures below { WritingBelow (D.ReadSlots.slots self.old.below) (D.ReadSlots.powered self.old.below) index bytes.now result (D.ReadSlots.slots self.new.below) (D.ReadSlots.powered self.new.below) }
-        ensures wiped { self.old.pad ≡ blank → self.new.pad ≡ blank }
+    fn write_below(&mut self, index: usize, bytes: &[u8; SLOT_SIZE]) -> Result<(), DeviceFault>
+        ensures below { WritingBelow (D.ReadSlots.state self.old) index bytes.now result (D.ReadSlots.state self.new) }
     {
         if index >= shown_count(&self.below) {
             return Err(DeviceFault::NoSuchSlot);
@@ -194,8 +200,7 @@ impl<D: TearSlots> Journal<D> {
 
     // A restart, and what it does below.
     fn restart_below(&mut self) -> Result<(), DeviceFault>
-        ensures below { RestartingBelow (D.ReadSlots.slots self.old.below) result (D.ReadSlots.slots self.new.below) (D.ReadSlots.powered self.new.below) }
-        ensures wiped { self.old.pad ≡ blank → self.new.pad ≡ blank }
+        ensures below { RestartingBelow (D.ReadSlots.state self.old) result (D.ReadSlots.state self.new) }
     {
         self.below.restart()?;
         if shown_count(&self.below) == 0 {
@@ -208,23 +213,21 @@ impl<D: TearSlots> Journal<D> {
 
 impl<D: TearSlots> WriteSlots for Journal<D> {
     #[tactic(auto, using(crate::proofs::Wholes::meanings, crate::proofs::Ends::endings))]
-    fn write(&mut self, index: usize, bytes: &[u8; 64]) -> Result<(), DeviceFault>
-        ensures meaning { Writing (shown (D.ReadSlots.slots self.old.below)) (D.ReadSlots.powered self.old.below) index bytes.now result (shown (D.ReadSlots.slots self.new.below)) (D.ReadSlots.powered self.new.below) }
-        ensures below { WritingBelow (D.ReadSlots.slots self.old.below) (D.ReadSlots.powered self.old.below) index bytes.now result (D.ReadSlots.slots self.new.below) (D.ReadSlots.powered self.new.below) }
-        ensures ends { WritingEnds (D.ReadSlots.slots self.old.below) (D.ReadSlots.powered self.old.below) index bytes.now result (D.ReadSlots.slots self.new.below) }
-        ensures unused { unused_in (D.ReadSlots.slots self.new.below) ≡ unused_in (D.ReadSlots.slots self.old.below) }
-        ensures wiped { self.old.pad ≡ blank → self.new.pad ≡ blank }
+    fn write(&mut self, index: usize, bytes: &[u8; SLOT_SIZE]) -> Result<(), DeviceFault>
+        ensures meaning { Writing (state_shown (D.ReadSlots.state self.old)) index bytes.now result (state_shown (D.ReadSlots.state self.new)) }
+        ensures below { WritingBelow (D.ReadSlots.state self.old) index bytes.now result (D.ReadSlots.state self.new) }
+        ensures ends { WritingEnds (D.ReadSlots.state self.old) index bytes.now result (D.ReadSlots.state self.new) }
+        ensures unused { unused_in (D.ReadSlots.state self.new).slots ≡ unused_in (D.ReadSlots.state self.old).slots }
     {
         self.write_below(index, bytes)
     }
 
     #[tactic(auto, using(crate::proofs::Wholes::meanings, crate::proofs::Ends::endings))]
     fn restart(&mut self) -> Result<(), DeviceFault>
-        ensures meaning { Restarting (shown (D.ReadSlots.slots self.old.below)) result (shown (D.ReadSlots.slots self.new.below)) (D.ReadSlots.powered self.new.below) }
-        ensures below { RestartingBelow (D.ReadSlots.slots self.old.below) result (D.ReadSlots.slots self.new.below) (D.ReadSlots.powered self.new.below) }
-        ensures ends { RestartingEnds (D.ReadSlots.slots self.old.below) result (D.ReadSlots.slots self.new.below) }
-        ensures unused { unused_in (D.ReadSlots.slots self.new.below) ≡ unused_in (D.ReadSlots.slots self.old.below) }
-        ensures wiped { self.old.pad ≡ blank → self.new.pad ≡ blank }
+        ensures meaning { Restarting (state_shown (D.ReadSlots.state self.old)) result (state_shown (D.ReadSlots.state self.new)) }
+        ensures below { RestartingBelow (D.ReadSlots.state self.old) result (D.ReadSlots.state self.new) }
+        ensures ends { RestartingEnds (D.ReadSlots.state self.old) result (D.ReadSlots.state self.new) }
+        ensures unused { unused_in (D.ReadSlots.state self.new).slots ≡ unused_in (D.ReadSlots.state self.old).slots }
     {
         self.restart_below()
     }

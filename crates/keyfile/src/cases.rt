@@ -1,9 +1,9 @@
 //! The damaged files, one a row: the bytes that change, each by its slot, its place there and its new value; the refusal and
 //! its place. Record k of the chain stands in slot 7 k mod 17 + 1: the first three in slots 1, 8 and 15, the last in slot 4.
-use crate::lay::{FILE, SLOTS};
 use refusal::Refusal::{self, BadHead, BadLink, Uncovered};
+use samples::Change;
 
-pub(crate) type FileCase = (&'static str, &'static [(usize, usize, u8)], Refusal, u32);
+pub(crate) type FileCase = (&'static str, &'static [Change], Refusal, u32);
 
 pub(crate) const DAMAGED: [FileCase; 13] = [
     ("head of a tree of 17 levels", &[(0, 1, 17)], BadHead, 0),
@@ -45,12 +45,3 @@ pub(crate) const DAMAGED: [FileCase; 13] = [
         15,
     ),
 ];
-
-/// A file after some changes.
-pub(crate) fn damaged(file: &[u8; FILE], changes: &[(usize, usize, u8)]) -> [u8; FILE] {
-    let mut bad = *file;
-    for (slot, byte, to) in changes {
-        bad[*slot % SLOTS * 64 + *byte % 64] = *to;
-    }
-    bad
-}

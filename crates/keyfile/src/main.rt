@@ -7,62 +7,52 @@ mod lay;
 
 use anyhow::Context;
 use beds::slot_at;
-use cases::{DAMAGED, damaged};
+use cases::DAMAGED;
 use chain::{Survey, read_file};
 use device::{ReadSlots, WriteSlots};
 use fault::Halt;
+use generator::VALUE_SIZE;
 use generators::ChaChaGenerator;
 use lay::{FILE, SLOTS, SPENT, lay_out};
-use layout::Numbers;
+use layout::{Numbers, copy_value};
+use medium::Cut;
 use memory::Memory;
 use octets::same_bytes;
 use refusal::Refusal;
-use samples::{ROOT, Show, all_are};
-use serving::{PAIR, record_at};
+use samples::{ROOT, Show, all_are, change};
+use serving::{PAIR, Records, survey};
 use tickets::{TOP, key_from};
 use tree::Node;
-
-fn read<D: ReadSlots>(device: &D, generator: u8, asked: Option<u32>) -> Result<Survey, Halt> {
-    let mut marks = [0; SLOTS];
-    let numbers = Numbers { generator, ..PAIR };
-    read_file(device, numbers, asked, &mut marks, &mut [0; 64])
-}
 
 // The value in a slot; none where it cannot be read.
 fn value_at<D: ReadSlots>(device: &D, slot: u16) -> Option<[u8; 32]> {
     let slot = slot_at(device, slot as usize)?;
-    slot.last_chunk::<32>().copied()
+    let mut value = [0; VALUE_SIZE];
+    copy_value(&slot, &mut value);
+    Some(value)
 }
 
 fn show_head(show: &mut Show, survey: &Survey) {
     let head = survey.head;
     println!(show;
         "head: first index {}, {} issued, generator {}, sealer {}",
-        head.first, head.issued, head.generator, head.sealer
+        head.first, head.issued, head.numbers.generator, head.numbers.sealer
     );
     println!(show; "chain: {} records", survey.length);
 }
 
-// Shows the record in a slot, and answers the slot of the next.
-fn show_record<D: ReadSlots>(show: &mut Show, device: &D, slot: u16) -> Option<u16> {
-    let fields = record_at(device, slot)?;
-    let value = value_at(device, slot)?;
-    let [a, b, c, ..] = value;
-    println!(show;
-        "  slot {slot}: depth {}, first {}, value {a:02x} {b:02x} {c:02x} ..",
-        fields.depth, fields.first
-    );
-    Some(fields.next)
-}
-
+// Shows the records of the chain, each with its slot.
 fn show_chain<D: ReadSlots>(show: &mut Show, device: &D, survey: &Survey) {
-    let mut slot = survey.head.first;
-    for _ in 0..survey.length {
-        let Some(next) = show_record(show, device, slot) else {
+    for (slot, record) in Records::new(device, survey.head.first, survey.length) {
+        let (Some(fields), Some(value)) = (record, value_at(device, slot)) else {
             show.expect(false, "a record of the chain cannot be read");
             return;
         };
-        slot = next;
+        let [a, b, c, ..] = value;
+        println!(show;
+            "  slot {slot}: depth {}, first {}, value {a:02x} {b:02x} {c:02x} ..",
+            fields.depth, fields.first
+        );
     }
 }
 
@@ -73,7 +63,7 @@ fn key_of(node: &Node, value: &[u8; 32], n: u32) -> anyhow::Result<([u8; 32], u3
 
 // Works a number's key out from the record that covers it, and compares it with the key from the root.
 fn show_key<D: ReadSlots>(show: &mut Show, device: &D, n: u32) -> anyhow::Result<()> {
-    let found = read(device, 1, Some(n))
+    let found = survey::<SLOTS, _>(device, PAIR, Some(n))
         .ok()
         .and_then(|survey| survey.found);
     let Some(found) = found else {
@@ -108,7 +98,7 @@ fn refused(
             show.expect(false, "a file is read that should be refused");
         }
         Err(halt) => {
-            let told = halt.refusal.number();
+            let told = u8::from(halt.refusal);
             println!(show; "{what}: refusal {told} at {}", halt.place);
             let right = halt.refusal == refusal && halt.place == place;
             show.expect(right, "a file is refused otherwise than it should be");
@@ -120,17 +110,19 @@ fn refused(
 fn refused_sound(show: &mut Show, file: &[u8; FILE]) {
     let mut row = *file;
     let mut device = Memory::new(&mut row);
-    refused(
-        show,
-        "server with generator 2",
-        read(&device, 2, None),
-        Refusal::BadHead,
-        0,
-    );
+    let other = Numbers {
+        generator: 2,
+        ..PAIR
+    };
+    let answer = survey::<SLOTS, _>(&device, other, None);
+    refused(show, "server with generator 2", answer, Refusal::BadHead, 0);
     let mut slot = [7; 64];
     let few = read_file(&device, PAIR, None, &mut [7; 19], &mut slot);
     refused(show, "marks for 19 slots", few, Refusal::ShortBuffer, 0);
-    device.appoint(0, 0);
+    device.appoint(Cut {
+        after: 0,
+        standing: 0,
+    });
     let _cut = device.write(19, &[0; 64]);
     let mut marks = [7; SLOTS];
     let dark = read_file(&device, PAIR, None, &mut marks, &mut slot);
@@ -142,7 +134,7 @@ fn refused_sound(show: &mut Show, file: &[u8; FILE]) {
 
 // Shows the head, the chain and some keys.
 fn show_file<D: ReadSlots>(show: &mut Show, device: &D) -> anyhow::Result<()> {
-    if let Ok(survey) = read(device, 1, None) {
+    if let Ok(survey) = survey::<SLOTS, _>(device, PAIR, None) {
         show_head(show, &survey);
         show_chain(show, device, &survey);
     }
@@ -155,13 +147,14 @@ fn show_file<D: ReadSlots>(show: &mut Show, device: &D) -> anyhow::Result<()> {
 fn main(rt: HostRuntime) -> anyhow::Result<()> {
     let mut show = Show::new(&rt);
     let mut file = [0; FILE];
-    let done = lay_out(&mut Memory::new(&mut file)).is_some();
+    let done = lay_out(&mut Memory::new(&mut file)).is_ok();
     println!(show; "a file of {SLOTS} slots with number {SPENT} spent, laid out: {done}");
     show_file(&mut show, &Memory::new(&mut file))?;
     show.println("damaged");
     for (what, changes, refusal, place) in DAMAGED {
-        let mut bad = damaged(&file, changes);
-        let answer = read(&Memory::new(&mut bad), 1, None);
+        let mut bad = file;
+        change(&mut bad, changes);
+        let answer = survey::<SLOTS, _>(&Memory::new(&mut bad), PAIR, None);
         refused(&mut show, what, answer, refusal, place);
     }
     refused_sound(&mut show, &file);

@@ -1,13 +1,15 @@
 -- What holds of a tree's slots and of its book after every past.
-use Rattle.std.proofs.Common.{◌≡◌, ℕ, ◌^◌, ◌<◌, ◌≤◌, Bool, true, List, [], ◌∷◌, map, length, get_or}
-use Rattle.device.specs.Effects.{Slots}
+use Rattle.std.proofs.Common.{◌≡◌, ℕ, ◌^◌, ◌<◌, ◌≤◌, true, List, [], ◌∷◌, map, length, get_or}
+use Rattle.device.specs.Effects.{Slots, State}
 use Rattle.layout.specs.declared.Head.{Head}
 use Rattle.layout.specs.Records.{encode_head}
 use Rattle.session.specs.Records.{is_record}
 use Rattle.tree.specs.Cover.{In, Distinct}
 use Rattle.tree.specs.Values.{key_of, valued_cover}
 use Rattle.chain.specs.Reading.{Link, valued_of, slots_of}
-use Rattle.rules.specs.Kits.{Kit, value_length, name_length}
+use Rattle.sealer.specs.Limits.{name_length}
+use Rattle.generator.specs.Bytes.{value_length}
+use Rattle.rules.specs.Kits.{Kit, numbers_in}
 use Rattle.rules.specs.Tickets.{ticket_of}
 use Rattle.rules.specs.Files.{entry, record_of}
 use Rattle.rules.specs.Calls.{count_fits}
@@ -21,7 +23,7 @@ Linked s [] i = Unit {0}
 Linked s (x ∷ xs) i = (0 < x.slot) × (x.slot < length s) × (get_or s x.slot [] ≡ record_of x (entry xs i)) × Linked s xs i
 
 abbrev pub head_for : Kit → List ℕ → ℕ → ℕ → Head
-head_for k name issued i = record { first = i; issued = issued; name = name; generator = k.generator; sealer = k.sealer }
+head_for k name issued i = record { first = i; issued = issued; name = name; numbers = numbers_in k }
 
 -- the head and the chain that are then read
 abbrev pub file_for : Kit → List ℕ → ℕ → List Link → Head × List Link
@@ -35,18 +37,18 @@ pub record Stands (k : Kit) (d : ℕ) (name : List ℕ) (issued : ℕ) (s : Slot
   pub apart : Distinct (slots_of xs)
 
 -- after every past
-pub record Inv (k : Kit) (d : ℕ) (root name : List ℕ) (m : Mode) (s : Slots) (on : Bool) (b : Book) : Type 0 where
+pub record Inv (k : Kit) (d : ℕ) (root name : List ℕ) (m : Mode) (s : State) (b : Book) : Type 0 where
   pub links : List Link
-  pub stands : Stands k d name b.issued s links
-  pub covers : map valued_of links ≡ valued_cover k.expansion d root b.spent
+  pub stands : Stands k d name b.issued s.slots links
+  pub covers : map valued_of links ≡ valued_cover k.generator.expansion d root b.spent
   pub counted : b.issued ≤ 2 ^ d
   pub below : (n : ℕ) → In n b.spent → n < b.issued
   pub rooted : length root ≡ value_length
   pub named : length name ≡ name_length
-  pub power : m ≡ running → on ≡ true
-  pub rest : m ≡ running → RestBlank s links
+  pub power : m ≡ running → s.power ≡ true
+  pub rest : m ≡ running → RestBlank s.slots links
   pub once : Distinct b.opened
   pub opened : (n : ℕ) → In n b.opened → In n b.spent
   pub issued : (g : Given) → In g b.given → g.number < b.issued
   pub records : (g : Given) → In g b.given → is_record g.state ≡ true
-  pub tickets : (g : Given) → In g b.given → g.ticket ≡ ticket_of k name g.number (key_of k.expansion d root g.number) g.state
+  pub tickets : (g : Given) → In g b.given → g.ticket ≡ ticket_of k name g.number (key_of k.generator.expansion d root g.number) g.state

@@ -18,5 +18,6 @@ pub mod Alike
 pub mod LawHolds
 pub mod Outcomes
 pub mod GoingOn
+pub mod Narrow
 pub mod NarrowPast
 pub mod Worked

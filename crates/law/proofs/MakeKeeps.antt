@@ -1,7 +1,7 @@
 -- A make whose head write stands begins what holds: the root's record alone on the chain, and zeros in all other slots.
-use Rattle.std.proofs.Common.{◌≡◌, ℕ, zero, suc, ◌+◌, ◌<◌, ◌≤◌, Bool, true, ◌≢◌, List, [], ◌∷◌, length, get_or, set, Result, sym, refl, ap, ◌∙◌, subst, subst₂, inl, inr, arith, length-append, length-set, take_all, get_or-set_other, get_or-set_same}
-use Rattle.std.proofs.lemmas.Bool.{both_ways, cases_eq, ltb-true}
-use Rattle.device.specs.Effects.{Slots, blank}
+use Rattle.std.proofs.Common.{◌≡◌, ℕ, zero, suc, ◌+◌, ◌<◌, ◌≤◌, true, List, [], ◌∷◌, length, get_or, set, Result, sym, refl, ap, ◌∙◌, inl, inr, arith, length-append, length-set, take_all, get_or-set_other, get_or-set_same}
+use Rattle.std.proofs.lemmas.Bool.{cases_eq, ltb-true}
+use Rattle.device.specs.Effects.{Slots, blank, State}
 use Rattle.fault.specs.declared.Halt.{Halt}
 use Rattle.fault.specs.declared.Step.TheVariants.{Make}
 use Rattle.layout.specs.declared.NodeFields.{NodeFields}
@@ -10,7 +10,9 @@ use Rattle.layout.specs.Records.{encode_head, encode_node}
 use Rattle.tree.specs.Nodes.{root_node}
 use Rattle.tree.specs.Cover.{In}
 use Rattle.chain.specs.Reading.{Link}
-use Rattle.rules.specs.Kits.{Kit, value_length, name_length}
+use Rattle.sealer.specs.Limits.{name_length}
+use Rattle.generator.specs.Bytes.{value_length}
+use Rattle.rules.specs.Kits.{Kit}
 use Rattle.steps.specs.OneStep.{Write}
 use Rattle.steps.specs.Writes.{stood, CutShort}
 use Rattle.rules.specs.Files.{blank_writes, root_record, first_head, make_writes}
@@ -20,34 +22,25 @@ use Rattle.rules.specs.Pasts.{Mode, running, cold, mode_of}
 use Rattle.law.specs.Law.{RestBlank}
 use Rattle.law.proofs.Invariant.{Stands, Inv}
 use Rattle.steps.proofs.Plans.{length_stood, stood_append}
-use Rattle.law.proofs.Frames.{Unnamed, stood_other, count_least, count_kept}
-use Rattle.law.proofs.Readings.{cold_not_running}
-use Rattle.law.proofs.ReopenKeeps.{Whole, Definite, whole_set}
+use Rattle.law.proofs.Frames.{kept, written, slot_after, count_least, count_kept}
+use Rattle.law.proofs.ReopenKeeps.{Whole, Definite, whole_stood}
 
 -- ---- zeros to every slot
 length_blanks : (n i : ℕ) → length (blank_writes i n) ≡ n
 length_blanks zero i = refl
 length_blanks (suc n) i = ap suc (length_blanks n (suc i))
 
-blanks_from : (n i : ℕ) (w : Write) → In w (blank_writes i n) → i ≤ w.slot
-blanks_from zero i w m = absurd m
-blanks_from (suc n) i w (inl e) = let q : w.slot ≡ i = ap (λ (u : Write). u.slot) e in omega arith
-blanks_from (suc n) i w (inr m) = let h = blanks_from n (suc i) w m in omega arith
+blank_to : (n i j : ℕ) → i ≤ j → j < i + n → In (record { slot = j; bytes = blank; step = Make }) (blank_writes i n)
+blank_to zero i j a b = absurd (omega arith)
+blank_to (suc n) i j a b = elim (cases_eq j i) [ inl q ↦ inl (rw q) | inr q ↦ inr (blank_to n (suc i) j (omega (arith, q)) (omega arith)) ]
 
-pub blank_at : (n i j : ℕ) (s : Slots) → i ≤ j → j < i + n → j < length s → get_or (stood s (blank_writes i n)) j [] ≡ blank
-blank_at zero i j s a b c = absurd (omega arith)
-blank_at (suc n) i j s a b c =
-    let l = length-set s i blank in
-    elim (cases_eq j i) [
-      | inl q ↦
-          let o : Unnamed j (blank_writes (suc i) n) = λ w m e. let h = blanks_from n (suc i) w m in omega (arith, e) in
-          let g : get_or (set s i blank) j [] ≡ blank = subst (λ (k : ℕ). get_or (set s i blank) k [] ≡ blank) (sym q) (get_or-set_same s i blank [] (subst (λ (k : ℕ). k < length s) q c)) in
-          stood_other (set s i blank) (blank_writes (suc i) n) j o ∙ g
-      | inr q ↦ blank_at n (suc i) j (set s i blank) (omega (arith, q)) (omega arith) (omega arith)
-    ]
+blank_bytes : (n i : ℕ) (w : Write) → In w (blank_writes i n) → w.bytes ≡ blank
+blank_bytes zero i w m = absurd m
+blank_bytes (suc n) i w (inl e) = rw e
+blank_bytes (suc n) i w (inr m) = blank_bytes n (suc i) w m
 
 -- ---- heads and records are not all zero
-pub head_definite : (d : ℕ) (h : Head) → Definite (encode_head d h)
+head_definite : (d : ℕ) (h : Head) → Definite (encode_head d h)
 unfolding encode_head
 head_definite d h = inr refl
 
@@ -56,113 +49,94 @@ unfolding encode_node
 node_definite x v = inr refl
 
 -- ---- all of the writes
-module _ (k : Kit) (d : ℕ) (s : Slots) (root name : List ℕ) (fits : count_fits d s ≡ true) where
-  zeroed : Slots
-  zeroed = stood s (blank_writes 0 (length s))
+-- every slot is zero after the first of them
+zeros_at : (s : Slots) (i : ℕ) → i < length (stood s (blank_writes 0 (length s))) → get_or (stood s (blank_writes 0 (length s))) i [] ≡ blank
+zeros_at s i l =
+    let n = length_stood s (blank_writes 0 (length s)) in
+    elim (slot_after s (blank_writes 0 (length s)) i (omega arith)) [
+      | kept u g ↦ absurd (u _ (blank_to (length s) 0 i (omega arith) (omega arith)) refl)
+      | written w m g ↦ g ∙ blank_bytes (length s) 0 w m
+    ]
 
-  after : Slots
-  after = set (set zeroed 1 (root_record root)) 0 (encode_head d (first_head k name))
+abbrev made_of : Kit → ℕ → List ℕ → List ℕ → List Write
+made_of k d root name = record { slot = 1; bytes = root_record root; step = Make } ∷ record { slot = 0; bytes = encode_head d (first_head k name); step = Make } ∷ []
 
-  wrote : stood s (make_writes k d s root name) ≡ after
-  unfolding after zeroed
-  wrote = stood_append s (blank_writes 0 (length s))
-      (record { slot = 1; bytes = root_record root; step = Make } ∷ record { slot = 0; bytes = encode_head d (first_head k name); step = Make } ∷ [])
-
-  length_zeroed : length zeroed ≡ length s
-  unfolding zeroed
-  length_zeroed = length_stood s (blank_writes 0 (length s))
-
-  length_after : length after ≡ length s
-  unfolding after
-  length_after =
-      length-set (set zeroed 1 (root_record root)) 0 (encode_head d (first_head k name)) ∙ (length-set zeroed 1 (root_record root) ∙ length_zeroed)
-
-  zeros_at : (i : ℕ) → i < length s → get_or zeroed i [] ≡ blank
-  unfolding zeroed
-  zeros_at i l = blank_at (length s) 0 i s (omega arith) (omega arith) l
-
-  after_whole : Whole after
-  unfolding after
-  after_whole =
-      let n = length_zeroed in
-      whole_set (set zeroed 1 (root_record root)) 0 (encode_head d (first_head k name)) (head_definite d (first_head k name))
-      (whole_set zeroed 1 (root_record root) (node_definite (record { depth = 0; first = 0; next = 0 }) root) (λ i l e. zeros_at i (omega arith)))
-
-  chain : List Link
+-- the last two, on slots that are all zero
+module _ (k : Kit) (d : ℕ) (root name : List ℕ) (z : Slots) (fits : count_fits d z ≡ true) (zeros : (i : ℕ) → i < length z → get_or z i [] ≡ blank) where
+  abbrev chain : List Link
   chain = record { slot = 1; node = root_node; value = root } ∷ []
 
-  many : 2 ≤ length s
-  many = let h = count_least d s fits in omega arith
-
-  stands : Stands k d name 0 after chain
-  unfolding after chain
+  stands : Stands k d name 0 (stood z (made_of k d root name)) chain
   stands =
-      let u = set zeroed 1 (root_record root) in
-      let n = length_zeroed in
-      let l = length-set zeroed 1 (root_record root) in
-      let m = many in
-      let a = length_after in
-      let h0 : 0 < length u = omega arith in
-      let h1 : 1 < length zeroed = omega arith in
-      let h2 : 1 < length after = omega arith in
-      let ne : ◌≢◌ {A = ℕ} 1 0 = λ q. omega (arith, q) in
+      let u = set z 1 (root_record root) in
+      let h = encode_head d (first_head k name) in
+      let m = count_least d z fits in
+      let l = length-set z 1 (root_record root) in
+      let a = length-set u 0 h in
       record {
-        fits = count_kept d s after length_after fits;
-        head = get_or-set_same u 0 (encode_head d (first_head k name)) [] h0;
-        links = (omega arith, h2, get_or-set_other u 0 1 (encode_head d (first_head k name)) [] ne ∙ get_or-set_same zeroed 1 (root_record root) [] h1, tt);
+        fits = count_kept d z (stood z (made_of k d root name)) (omega arith) fits;
+        head = get_or-set_same u 0 h [] (omega arith);
+        links = (omega arith, omega arith, get_or-set_other u 0 1 h [] (λ q. omega arith) ∙ get_or-set_same z 1 (root_record root) [] (omega arith), tt);
         apart = (λ i. i, tt);
       }
 
-  rest : RestBlank after chain
-  unfolding after chain
+  rest : RestBlank (stood z (made_of k d root name)) chain
   rest i above within off =
-      let a = length_after in
-      let h : i < length s = omega arith in
-      let n0 : i ≢ 0 = λ q. omega (arith, q) in
-      let n1 : i ≢ 1 = λ q. off (inl q) in
-      get_or-set_other (set zeroed 1 (root_record root)) 0 i (encode_head d (first_head k name)) [] n0
-      ∙ (get_or-set_other zeroed 1 i (root_record root) [] n1 ∙ zeros_at i h)
+      let u = set z 1 (root_record root) in
+      let l = length-set z 1 (root_record root) in
+      let a = length-set u 0 (encode_head d (first_head k name)) in
+      get_or-set_other u 0 i (encode_head d (first_head k name)) [] (λ q. omega arith)
+      ∙ (get_or-set_other z 1 i (root_record root) [] (λ q. off (inl q)) ∙ zeros i (omega arith))
 
-  begun : (m : Mode) (on' : Bool) → length root ≡ value_length → length name ≡ name_length → (m ≡ running → on' ≡ true) → Inv k d root name m after on' fresh_book
-  unfolding chain
-  begun m on' lr ln p = record {
-    links = chain;
-    stands = stands;
-    covers = refl;
-    counted = omega arith;
-    below = λ n i. absurd i;
-    rooted = lr;
-    named = ln;
-    power = p;
-    rest = λ e. rest;
-    once = tt;
-    opened = λ n i. absurd i;
-    issued = λ g i. absurd i;
-    records = λ g i. absurd i;
-    tickets = λ g i. absurd i;
-  }
+  whole : Whole (stood z (made_of k d root name))
+  whole = whole_stood (made_of k d root name) z
+      (λ w m. elim m [
+        | inl e ↦ rw e (node_definite (record { depth = 0; first = 0; next = 0 }) root)
+        | inr r ↦ elim r [ inl e ↦ rw e (head_definite d (first_head k name)) | inr z ↦ absurd z ]
+      ])
+      (λ i l e. zeros i l)
 
-  -- a cut after which the head's write stands came at that write
-  all_stand : (m : ℕ) (h : Halt) (t : Slots) → CutShort s (make_writes k d s root name) m h t → length s + 1 < m → t ≡ stood s (make_writes k d s root name)
-  all_stand m h t c l =
-      let tail : List Write = record { slot = 1; bytes = root_record root; step = Make } ∷ record { slot = 0; bytes = encode_head d (first_head k name); step = Make } ∷ [] in
-      let a = length-append (blank_writes 0 (length s)) tail in
+  begun : (m : Mode) (t : State) → t.slots ≡ stood z (made_of k d root name) → length root ≡ value_length → length name ≡ name_length → (m ≡ running → t.power ≡ true) → Inv k d root name m t fresh_book × Whole t.slots
+  begun m t e lr ln p = (
+    record {
+      links = chain;
+      stands = rw e stands;
+      covers = refl;
+      counted = omega arith;
+      below = λ n i. absurd i;
+      rooted = lr;
+      named = ln;
+      power = p;
+      rest = λ q. rw e rest;
+      once = tt;
+      opened = λ n i. absurd i;
+      issued = λ g i. absurd i;
+      records = λ g i. absurd i;
+      tickets = λ g i. absurd i;
+    },
+    rw e whole,
+  )
+
+-- of a make whose head write stands: so all of its writes do
+module _ (k : Kit) (d : ℕ) (root name : List ℕ) (s : Slots) (fits : count_fits d s ≡ true) where
+  abbrev zeroed : Slots
+  zeroed = stood s (blank_writes 0 (length s))
+
+  wrote : (m : Mode) (t : State) → t.slots ≡ stood s (make_writes k d s root name) → length root ≡ value_length → length name ≡ name_length → (m ≡ running → t.power ≡ true) →
+      Inv k d root name m t fresh_book × Whole t.slots
+  wrote m t e = begun k d root name zeroed (count_kept d s zeroed (length_stood s (blank_writes 0 (length s))) fits) (zeros_at s) m t (e ∙ stood_append s (blank_writes 0 (length s)) (made_of k d root name))
+
+  -- a cut after which it stands came at that write
+  all_stand : {m : ℕ} {h : Halt} {t : Slots} → CutShort s (make_writes k d s root name) m h t → length s + 1 < m → t ≡ stood s (make_writes k d s root name)
+  all_stand {m = m} c l =
+      let a = length-append (blank_writes 0 (length s)) (made_of k d root name) in
       let n = length_blanks (length s) 0 in
-      let q : length (make_writes k d s root name) ≤ m = omega arith in
-      c.slots ∙ ap (λ (ws : List Write). stood s ws) (take_all m (make_writes k d s root name) q)
+      c.slots ∙ ap (stood s) (take_all m (make_writes k d s root name) (omega arith))
 
-abbrev pub MakeHolds : Type 0
-MakeHolds = (k : Kit) (d : ℕ) (root name : List ℕ) (s : Slots) (on : Bool) (r : Result (Unit {0}) Halt) (t : Slots) (on' : Bool) →
-    length root ≡ value_length → length name ≡ name_length → Making k d s on root name r t on' true → Inv k d root name (mode_of r) t on' fresh_book × Whole t
-
-pub make_holds : MakeHolds
-make_holds k d root name s on r t on' lr ln (declined f e z p h) = absurd (both_ways true h refl)
-make_holds k d root name s on r t on' lr ln (stopped f e z p h) = absurd (both_ways true h refl)
-make_holds k d root name s on r t on' lr ln (cut m h f c e p q) =
-    let z = all_stand k d s root name f m h t c (ltb-true (length s + 1) m (sym q)) ∙ wrote k d s root name f in
-    subst₂ (λ (r : Result (Unit {0}) Halt) (t : Slots). Inv k d root name (mode_of r) t on' fresh_book × Whole t) (sym e) (sym z)
-    (begun k d s root name f cold on' lr ln (λ i. absurd (cold_not_running i)), after_whole k d s root name f)
-make_holds k d root name s on r t on' lr ln (made f w e p q) =
-    let z = w ∙ wrote k d s root name f in
-    subst₂ (λ (r : Result (Unit {0}) Halt) (t : Slots). Inv k d root name (mode_of r) t on' fresh_book × Whole t) (sym e) (sym z)
-    (begun k d s root name f running on' lr ln (λ i. p), after_whole k d s root name f)
+pub make_holds : {k : Kit} {d : ℕ} {root name : List ℕ} {s : State} {r : Result (Unit {0}) Halt} {t : State} →
+    length root ≡ value_length → length name ≡ name_length → Making k d s root name r t true → Inv k d root name (mode_of r) t fresh_book × Whole t.slots
+make_holds lr ln (declined f e z h) = absurd (cc)
+make_holds lr ln (stopped f e z p h) = absurd (cc)
+make_holds {k = k} {d = d} {root = root} {name = name} {s = s} {t = t} lr ln (cut m h f c e p q) =
+    rw e (wrote k d root name s.slots f cold t (all_stand k d root name s.slots f c (ltb-true (length s.slots + 1) m (sym q))) lr ln (λ i. absurd (cc)))
+make_holds {k = k} {d = d} {root = root} {name = name} {s = s} {t = t} lr ln (made f w e p q) = rw e (wrote k d root name s.slots f running t w lr ln (λ i. p))

@@ -1,22 +1,24 @@
 -- A file that stands in the slots, with the chain of a cover, reads as itself.
-use Rattle.std.proofs.Common.{◌≡◌, ℕ, ◌-◌, ◌%◌, ◌^◌, ◌<◌, ◌≤◌, ◌&&◌, eqb, ltb, leb, List, [], ◌∷◌, map, length, sym, refl, ap, ◌∙◌, subst, inl, inr, arith, pow_mono}
-use Rattle.std.proofs.lemmas.Bool.{and_parts, and_from, eq-eqb, lt-ltb, le-leb, leb-true}
-use Rattle.device.specs.Effects.{Slots}
+use Rattle.std.proofs.Common.{◌≡◌, ℕ, ◌-◌, ◌%◌, ◌^◌, ◌<◌, ◌≤◌, leb, List, [], ◌∷◌, length, refl, ap, ◌∙◌, inl, inr, arith, pow_mono}
+use Rattle.std.proofs.lemmas.Bool.{and_parts, eq-eqb, lt-ltb, le-leb, leb-true}
+use Rattle.device.specs.Effects.{Slots, State}
+use Rattle.layout.specs.Records.{fields_of}
 use Rattle.layout.specs.Trips.{NodeFits}
 use Rattle.tree.specs.declared.Node.{Node}
 use Rattle.tree.specs.Nodes.{width_of, IsNode}
 use Rattle.tree.specs.Cover.{In}
-use Rattle.tree.specs.Values.{valued_cover}
 use Rattle.tree.proofs.Members.{depth, first}
 use Rattle.tree.proofs.Shapes.{node_to}
-use Rattle.chain.specs.Reading.{Link, valued_of, sound, file_of}
+use Rattle.chain.specs.Reading.{Link, sound, file_of}
 use Rattle.chain.specs.Listing.{first_slot}
-use Rattle.chain.specs.Sound.{fields_of, Linked as LaidLinks}
+use Rattle.chain.specs.Sound.{Linked as LaidLinks}
 use Rattle.chain.proofs.Backs.{file_laws}
-use Rattle.rules.specs.Kits.{Kit, name_length}
+use Rattle.rules.specs.Kits.{Kit, numbers_in}
 use Rattle.rules.specs.Files.{entry, record_of}
 use Rattle.rules.specs.Calls.{slots_least, slots_most}
-use Rattle.law.proofs.Invariant.{Linked, head_for, Stands}
+use Rattle.rules.specs.Books.{Book}
+use Rattle.rules.specs.Pasts.{Mode}
+use Rattle.law.proofs.Invariant.{Linked, head_for, Inv}
 use Rattle.law.proofs.Links.{nodes_are, link_is}
 
 -- ---- the file as it is laid out
@@ -33,8 +35,7 @@ node_fits d j x l o s =
     let p : 2 ^ d ≤ 2 ^ 16 = pow_mono l in
     let m : first x % width_of d (depth x) ≡ 0 = node_to d (width_of d (depth x)) x refl o in
     record {
-      node = and_from (leb (depth x) d) (ltb (first x) (2 ^ d) && eqb (first x % 2 ^ (d - depth x)) 0) (le-leb (depth x) d o.shallow)
-          (and_from (ltb (first x) (2 ^ d)) (eqb (first x % 2 ^ (d - depth x)) 0) (lt-ltb (first x) (2 ^ d) o.inside) (eq-eqb (first x % 2 ^ (d - depth x)) 0 m));
+      node = rw (le-leb (depth x) d o.shallow, lt-ltb (first x) (2 ^ d) o.inside, eq-eqb (first x % 2 ^ (d - depth x)) 0 m);
       first = omega (arith, o.inside);
       next = s;
     }
@@ -51,18 +52,17 @@ links_laid d s (x ∷ xs) dl few nodes k = (
   links_laid d s xs dl few (λ y i. nodes y (inr i)) k.3,
 )
 
-pub reads_back : (k : Kit) (d : ℕ) (root name : List ℕ) (issued : ℕ) (spent : List ℕ) (s : Slots) (xs : List Link) → d ≤ 16 →
-    Stands k d name issued s xs → length name ≡ name_length → issued ≤ 2 ^ d → ((n : ℕ) → In n spent → n < issued) →
-    map valued_of xs ≡ valued_cover k.expansion d root spent → file_of d k.generator k.sealer s ≡ sound (head_for k name issued (entry xs 0)) xs
-reads_back k d root name issued spent s xs dl st nl il below q =
-    let few : length s ≤ slots_most = leb-true (length s) slots_most (and_parts (leb (slots_least d) (length s)) (leb (length s) slots_most) st.fits).1 in
-    let small : entry xs 0 < 2 ^ 16 = subst (λ (i : ℕ). i < 2 ^ 16) (sym (first_is xs)) (first_small s xs few st.links) in
+pub reads_back : {k : Kit} {d : ℕ} {root name : List ℕ} {m : Mode} {s : State} {b : Book} → d ≤ 16 → (v : Inv k d root name m s b) →
+    file_of d (numbers_in k) s.slots ≡ sound (head_for k name b.issued (entry v.links 0)) v.links
+reads_back {k = k} {d = d} {name = name} {s = s} {b = b} dl v =
+    let few : length s.slots ≤ slots_most = leb-true (length s.slots) slots_most (and_parts (leb (slots_least d) (length s.slots)) (leb (length s.slots) slots_most) v.stands.fits).1 in
+    let small : entry v.links 0 < 2 ^ 16 = rw (first_is v.links) (first_small s.slots v.links few v.stands.links) in
     let p : 2 ^ d ≤ 2 ^ 16 = pow_mono dl in
-    file_laws.back d s (head_for k name issued (entry xs 0)) xs spent
+    file_laws.back d s.slots (head_for k name b.issued (entry v.links 0)) v.links b.spent
     (record {
-      bytes = st.head;
-      fits = record { first = small; issued = il; word = omega arith; name = nl };
-      first = first_is xs;
-      links = links_laid d s xs dl few (λ x i. (link_is k d root spent xs q x i).is_node) st.links;
+      bytes = v.stands.head;
+      fits = record { first = small; issued = v.counted; word = omega (arith, v.counted); name = v.named };
+      first = first_is v.links;
+      links = links_laid d s.slots v.links dl few (λ x i. (link_is v x i).is_node) v.stands.links;
     })
-    (nodes_are k d root spent xs q) below
+    (nodes_are v) v.below

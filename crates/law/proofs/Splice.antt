@@ -1,5 +1,5 @@
 -- A chain in which new records come into the place of one: the records, the join, and the erasure.
-use Rattle.std.proofs.Common.{◌≡◌, ℕ, suc, ◌<◌, ◌⊎◌, List, [], ◌∷◌, ◌++◌, map, length, get_or, take, set, sym, refl, ap, ◌∙◌, subst, inl, inr, arith}
+use Rattle.std.proofs.Common.{◌≡◌, ℕ, ◌<◌, ◌⊎◌, List, [], ◌∷◌, ◌++◌, map, length, get_or, take, set, sym, refl, ap, ◌∙◌, subst, inl, inr, arith}
 use Rattle.std.proofs.lemmas.Bool.{cases_eq}
 use Rattle.std.proofs.lemmas.List.{length-set, length_push, get_or-set_same, get_or-set_other}
 use Rattle.octets.proofs.Fielded.{bytes2}
@@ -13,20 +13,20 @@ use Rattle.chain.specs.Reading.{Link, valued_of, slots_of}
 use Rattle.rules.specs.Kits.{Kit}
 use Rattle.steps.specs.OneStep.{Write}
 use Rattle.steps.specs.Writes.{stood}
-use Rattle.rules.specs.Files.{entry, last_slot, record_of, links_in, new_writes, join_write, erase_write, redeem_writes}
+use Rattle.rules.specs.Files.{entry, last_slot, record_of, links_in, new_writes, join_write, erase_write, redeem_writes, FreeSlots}
 use Rattle.law.specs.Law.{RestBlank}
 use Rattle.law.proofs.Invariant.{Linked, head_for, Stands}
 use Rattle.steps.proofs.Plans.{stood_append, length_stood}
 use Rattle.law.proofs.Frames.{stood_other, count_least, count_kept, linked_set, Aside, aside_take, stands_aside}
 use Rattle.chain.proofs.Chains.{slot_left}
-use Rattle.law.proofs.Chains.{slot_right, slot_cases, apart_left, apart_right, apart_cross, apart_append, entry_append, linked_append, linked_front, linked_back, linked_above, linked_within}
+use Rattle.law.proofs.Chains.{slot_right, slot_cases, apart_parts, apart_append, entry_append, linked_append, linked_parts, linked_slot}
 
 -- ---- leading on to another index
-pub relink_node : (i j : ℕ) (x : Link) → relinked i (record_of x j) ≡ record_of x i
+relink_node : (i j : ℕ) (x : Link) → relinked i (record_of x j) ≡ record_of x i
 unfolding encode_node
 relink_node i j x = rw (bytes2 x.node.first, bytes2 j)
 
-pub relink_head : (k : Kit) (d : ℕ) (name : List ℕ) (issued i j : ℕ) → relinked i (encode_head d (head_for k name issued j)) ≡ encode_head d (head_for k name issued i)
+relink_head : (k : Kit) (d : ℕ) (name : List ℕ) (issued i j : ℕ) → relinked i (encode_head d (head_for k name issued j)) ≡ encode_head d (head_for k name issued i)
 unfolding encode_head
 relink_head k d name issued i j = rw (bytes2 j)
 
@@ -42,11 +42,6 @@ links_valued [] (v ∷ vs) e = absurd (omega arith)
 links_valued (f ∷ fs) [] e = absurd (omega arith)
 links_valued (f ∷ fs) (v ∷ vs) e = ap (λ (l : List Valued). v ∷ l) (links_valued fs vs (omega arith))
 
-pub length_links : (fs : List ℕ) (vs : List Valued) → length fs ≡ length vs → length (links_in fs vs) ≡ length fs
-length_links [] vs e = refl
-length_links (f ∷ fs) [] e = absurd (omega arith)
-length_links (f ∷ fs) (v ∷ vs) e = ap suc (length_links fs vs (omega arith))
-
 -- ---- the new records
 abbrev new_write : Link → ℕ → Write
 new_write x i = record { slot = x.slot; bytes = record_of x i; step = NewRecord }
@@ -56,7 +51,7 @@ length_writes [] i = refl
 length_writes (x ∷ xs) i = omega (arith, length_push (new_writes xs i) (new_write x (entry xs i)), length_writes xs i)
 
 -- they go to their own slots only
-pub new_slots : (xs : List Link) (i : ℕ) (w : Write) → In w (new_writes xs i) → In w.slot (slots_of xs)
+new_slots : (xs : List Link) (i : ℕ) (w : Write) → In w (new_writes xs i) → In w.slot (slots_of xs)
 new_slots [] i w m = absurd m
 new_slots (x ∷ xs) i w m =
     elim (in_cases w (new_writes xs i) (new_write x (entry xs i) ∷ []) m) [
@@ -65,7 +60,7 @@ new_slots (x ∷ xs) i w m =
     ]
 
 -- and stand there, linked
-pub new_linked : (s : Slots) (xs : List Link) (i : ℕ) → Distinct (slots_of xs) → ((j : ℕ) → In j (slots_of xs) → 0 < j) → ((j : ℕ) → In j (slots_of xs) → j < length s) →
+new_linked : (s : Slots) (xs : List Link) (i : ℕ) → Distinct (slots_of xs) → ((j : ℕ) → In j (slots_of xs) → 0 < j) → ((j : ℕ) → In j (slots_of xs) → j < length s) →
     Linked (stood s (new_writes xs i)) xs i
 new_linked s [] i a low high = tt
 new_linked s (x ∷ xs) i a low high =
@@ -74,46 +69,32 @@ new_linked s (x ∷ xs) i a low high =
     let b = record_of x (entry xs i) in
     let t = set u x.slot b in
     let e : stood s (ws ++ (new_write x (entry xs i) ∷ [])) ≡ t = stood_append s ws (new_write x (entry xs i) ∷ []) in
-    let h : x.slot < length u = subst (λ (n : ℕ). x.slot < n) (sym (length_stood s ws)) (high x.slot (inl refl)) in
-    let m = length-set u x.slot b in
+    let h : x.slot < length u = rw length_stood (high x.slot (inl refl)) in
     let l = new_linked s xs i a.1 (λ j p. low j (inr p)) (λ j p. high j (inr p)) in
-    subst (λ (z : Slots). Linked z (x ∷ xs) i) (sym e) (
-      low x.slot (inl refl),
-      subst (λ (n : ℕ). x.slot < n) (sym m) h,
-      get_or-set_same u x.slot b [] h,
-      linked_set u xs i x.slot b a.0 l,
-    )
+    subst (λ (z : Slots). Linked z (x ∷ xs) i) (sym e) (low x.slot (inl refl), rw length-set h, get_or-set_same u x.slot b [] h, linked_set u xs i x.slot b a.0 l)
 
 -- ---- the join
-pub last_in : (y : Link) (ys : List Link) → In (last_slot y.slot ys) (slots_of (y ∷ ys))
+last_in : (y : Link) (ys : List Link) → In (last_slot y.slot ys) (slots_of (y ∷ ys))
 last_in y [] = inl refl
 last_in y (z ∷ zs) = inr (last_in z zs)
 
 -- the join goes to the head or to a slot of the chain's front
-pub last_cases : (front : List Link) → (last_slot 0 front ≡ 0) ⊎ In (last_slot 0 front) (slots_of front)
+last_cases : (front : List Link) → (last_slot 0 front ≡ 0) ⊎ In (last_slot 0 front) (slots_of front)
 last_cases [] = inl refl
 last_cases (y ∷ ys) = inr (last_in y ys)
 
 relink_linked : (s : Slots) (y : Link) (ys : List Link) (j i : ℕ) → Distinct (slots_of (y ∷ ys)) → Linked s (y ∷ ys) j →
     Linked (set s (last_slot y.slot ys) (relinked i (get_or s (last_slot y.slot ys) []))) (y ∷ ys) i
 relink_linked s y [] j i a l =
-    let b = relinked i (get_or s y.slot []) in (
-      l.0,
-      subst (λ (n : ℕ). y.slot < n) (sym (length-set s y.slot b)) l.1,
-      get_or-set_same s y.slot b [] l.1 ∙ ap (relinked i) l.2 ∙ relink_node i j y,
-      tt,
-    )
+    let b = relinked i (get_or s y.slot []) in
+    (l.0, rw length-set l.1, get_or-set_same s y.slot b [] l.1 ∙ ap (relinked i) l.2 ∙ relink_node i j y, tt)
 relink_linked s y (z ∷ zs) j i a l =
     let p = last_slot z.slot zs in
-    let b = relinked i (get_or s p []) in (
-      l.0,
-      subst (λ (n : ℕ). y.slot < n) (sym (length-set s p b)) l.1,
-      get_or-set_other s p y.slot b [] (λ q. a.0 (subst (λ (w : ℕ). In w (slots_of (z ∷ zs))) (sym q) (last_in z zs))) ∙ l.2,
-      relink_linked s z zs j i a.1 l.3,
-    )
+    let b = relinked i (get_or s p []) in
+    (l.0, rw length-set l.1, get_or-set_other s p y.slot b [] (λ q. a.0 (subst (λ (w : ℕ). In w (slots_of (z ∷ zs))) (sym q) (last_in z zs))) ∙ l.2, relink_linked s z zs j i a.1 l.3)
 
 -- the slots with the end of the front leading on to i
-abbrev pub joined_to : Slots → List Link → ℕ → Slots
+abbrev joined_to : Slots → List Link → ℕ → Slots
 joined_to s front i = set s (last_slot 0 front) (relinked i (get_or s (last_slot 0 front) []))
 
 join_linked : (s : Slots) (front : List Link) (j i : ℕ) → Distinct (slots_of front) → Linked s front j → Linked (joined_to s front i) front i
@@ -125,134 +106,123 @@ join_head : (k : Kit) (d : ℕ) (name : List ℕ) (issued : ℕ) (s : Slots) (fr
 join_head k d name issued s [] j i z l h = get_or-set_same s 0 (relinked i (get_or s 0 [])) [] z ∙ ap (relinked i) h ∙ relink_head k d name issued i j
 join_head k d name issued s (y ∷ ys) j i z l h =
     let p = last_slot y.slot ys in
-    let o : 0 < p = linked_above s (y ∷ ys) j p l (last_in y ys) in
+    let o = linked_slot s (y ∷ ys) j p l (last_in y ys) in
     get_or-set_other s p 0 (relinked i (get_or s p [])) [] (λ q. omega arith) ∙ h
 
--- once new records stand linked beside the chain, the join puts them into the place of x
-pub join_stands : (k : Kit) (d : ℕ) (name : List ℕ) (issued : ℕ) (s : Slots) (front : List Link) (x : Link) (back new : List Link) →
-    Stands k d name issued s (front ++ (x ∷ back)) → Linked s new (entry back 0) → Distinct (slots_of new) →
-    ((j : ℕ) → In j (slots_of new) → In j (slots_of (front ++ (x ∷ back))) → ⊥) →
-    Stands k d name issued (joined_to s front (entry new (entry back 0))) (front ++ (new ++ back))
-join_stands k d name issued s front x back new st l a off =
+-- new links in free slots, which can come into the place of x
+pub record Fresh (k : Kit) (d : ℕ) (name : List ℕ) (issued : ℕ) (s : Slots) (front : List Link) (x : Link) (back new : List Link) : Type 0 where
+  pub stands : Stands k d name issued s (front ++ (x ∷ back))
+  pub free : FreeSlots s (front ++ (x ∷ back)) (slots_of new)
+
+-- once they stand linked beside the chain, the join puts them into the place of x
+join_stands : {k : Kit} {d : ℕ} {name : List ℕ} {issued : ℕ} {s : Slots} {front : List Link} {x : Link} {back new : List Link} →
+    Fresh k d name issued s front x back new → Linked s new (entry back 0) → Stands k d name issued (joined_to s front (entry new (entry back 0))) (front ++ (new ++ back))
+join_stands {k = k} {d = d} {name = name} {issued = issued} {s = s} {front = front} {x = x} {back = back} {new = new} z l =
+    let st = z.stands in
     let i = entry new (entry back 0) in
     let p = last_slot 0 front in
     let b = relinked i (get_or s p []) in
     let t = joined_to s front i in
     let n : length t ≡ length s = length-set s p b in
     let e : entry (new ++ back) 0 ≡ i = entry_append new back 0 in
-    let fl : Linked s front x.slot = linked_front s front (x ∷ back) 0 st.links in
-    let bl : Linked s back 0 = (linked_back s front (x ∷ back) 0 st.links).3 in
-    let fa : Distinct (slots_of front) = apart_left front (x ∷ back) st.apart in
-    let ra : Distinct (slots_of (x ∷ back)) = apart_right front (x ∷ back) st.apart in
-    let cross = apart_cross front (x ∷ back) st.apart in
-    let ft : Linked t front i = join_linked s front x.slot i fa fl in
+    let parts = linked_parts s front (x ∷ back) 0 st.links in
+    let apart = apart_parts front (x ∷ back) st.apart in
+    let ft : Linked t front i = join_linked s front x.slot i apart.front parts.0 in
     let off_new : In p (slots_of new) → ⊥ = λ m.
     elim (last_cases front) [
-      | inl z ↦ let o : 0 < p = linked_above s new (entry back 0) p l m in omega arith
-      | inr f ↦ off p m (slot_left p front (x ∷ back) f)
+      | inl e ↦ let o = z.free.above p m in omega arith
+      | inr f ↦ z.free.off p m (slot_left p front (x ∷ back) f)
     ] in
     let off_back : In p (slots_of back) → ⊥ = λ m.
     elim (last_cases front) [
-      | inl z ↦ let o : 0 < p = linked_above s back 0 p bl m in omega arith
-      | inr f ↦ cross p f (inr m)
+      | inl e ↦ let o = linked_slot s back 0 p parts.1.3 m in omega arith
+      | inr f ↦ apart.cross p f (inr m)
     ] in
     let nt : Linked t new (entry back 0) = linked_set s new (entry back 0) p b off_new l in
-    let bt : Linked t back 0 = linked_set s back 0 p b off_back bl in
-    let hs : get_or s 0 [] ≡ encode_head d (head_for k name issued (entry front x.slot)) =
-    st.head ∙ ap (λ (z : ℕ). encode_head d (head_for k name issued z)) (entry_append front (x ∷ back) 0) in
-    let es : entry front i ≡ entry (front ++ (new ++ back)) 0 = ap (entry front) (sym e) ∙ sym (entry_append front (new ++ back) 0) in
+    let bt : Linked t back 0 = linked_set s back 0 p b off_back parts.1.3 in
     record {
       fits = count_kept d s t n st.fits;
-      head = join_head k d name issued s front x.slot i (omega (arith, count_least d s st.fits)) fl hs ∙ ap (λ (z : ℕ). encode_head d (head_for k name issued z)) es;
-      links = linked_append t front (new ++ back) 0 (subst (λ (z : ℕ). Linked t front z) (sym e) ft) (linked_append t new back 0 nt bt);
-      apart = apart_append front (new ++ back) fa
-          (apart_append new back a ra.1 (λ j m o. off j m (slot_right j front (x ∷ back) (inr o))))
-          (λ j m o. elim (slot_cases j new back o) [
-            | inl c ↦ off j c (slot_left j front (x ∷ back) m)
-            | inr c ↦ cross j m (inr c)
-          ]);
+      head = rw (entry_append front (new ++ back) 0, e)
+          (join_head k d name issued s front x.slot i (omega (arith, count_least d s st.fits)) parts.0 (rw (entry_append front (x ∷ back) 0) at st.head));
+      links = linked_append t front (new ++ back) 0 (rw e ft) (linked_append t new back 0 nt bt);
+      apart = apart_append front (new ++ back) (record {
+        front = apart.front;
+        back = apart_append new back (record { front = z.free.apart; back = apart.back.1; cross = λ j m o. z.free.off j m (slot_right j front (x ∷ back) (inr o)) });
+        cross = λ j m o. elim (slot_cases j new back o) [
+          | inl c ↦ z.free.off j c (slot_left j front (x ∷ back) m)
+          | inr c ↦ apart.cross j m (inr c)
+        ];
+      });
     }
 
 -- ---- the writes of a redemption, in order: new records in free slots, the join, the erasure of x
-module _ (k : Kit) (d : ℕ) (name : List ℕ) (issued : ℕ) (s : Slots) (front : List Link) (x : Link) (back new : List Link)
-    (st : Stands k d name issued s (front ++ (x ∷ back)))
-    (low : (j : ℕ) → In j (slots_of new) → 0 < j) (high : (j : ℕ) → In j (slots_of new) → j < length s)
-    (off : (j : ℕ) → In j (slots_of new) → In j (slots_of (front ++ (x ∷ back))) → ⊥) (apart : Distinct (slots_of new)) where
-  new_aside : Aside (front ++ (x ∷ back)) (new_writes new (entry back 0))
-  new_aside w m = let i = new_slots new (entry back 0) w m in (low w.slot i, off w.slot i)
+module _ {k : Kit} {d : ℕ} {name : List ℕ} {issued : ℕ} {s : Slots} {front : List Link} {x : Link} {back new : List Link} (z : Fresh k d name issued s front x back new) where
+  abbrev ws : List Write
+  ws = new_writes new (entry back 0)
+
+  abbrev join : Write
+  join = join_write s front (entry new (entry back 0))
+
+  new_aside : Aside (front ++ (x ∷ back)) ws
+  new_aside w m = let i = new_slots new (entry back 0) w m in (z.free.above w.slot i, z.free.off w.slot i)
 
   -- while the join does not stand the chain is as it was
-  pub unjoined : (m : ℕ) → Stands k d name issued (stood s (take m (new_writes new (entry back 0)))) (front ++ (x ∷ back))
-  unjoined m =
-      let ws = new_writes new (entry back 0) in
-      stands_aside k d name issued (front ++ (x ∷ back)) s (take m ws) (aside_take (front ++ (x ∷ back)) m ws new_aside) st
+  pub unjoined : (m : ℕ) → Stands k d name issued (stood s (take m ws)) (front ++ (x ∷ back))
+  unjoined m = stands_aside (take m ws) (aside_take (front ++ (x ∷ back)) m ws new_aside) z.stands
 
-  laid : Stands k d name issued (stood s (new_writes new (entry back 0))) (front ++ (x ∷ back))
-  laid = stands_aside k d name issued (front ++ (x ∷ back)) s (new_writes new (entry back 0)) new_aside st
+  laid : Fresh k d name issued (stood s ws) front x back new
+  laid = record { stands = stands_aside ws new_aside z.stands; free = record { above = z.free.above; within = rw length_stood z.free.within; off = z.free.off; apart = z.free.apart } }
 
   -- the join's slot holds what it held before the new records
-  join_same : get_or (stood s (new_writes new (entry back 0))) (last_slot 0 front) [] ≡ get_or s (last_slot 0 front) []
+  join_same : get_or (stood s ws) (last_slot 0 front) [] ≡ get_or s (last_slot 0 front) []
   join_same =
       let p = last_slot 0 front in
-      stood_other s (new_writes new (entry back 0)) p (λ w m e.
-      let n : In p (slots_of new) = subst (λ (j : ℕ). In j (slots_of new)) (sym e) (new_slots new (entry back 0) w m) in
+      stood_other s ws p (λ w m e.
+      let n : In p (slots_of new) = rw e (new_slots new (entry back 0) w m) in
       elim (last_cases front) [
-        | inl z ↦ let o : 0 < p = low p n in omega arith
-        | inr f ↦ off p n (slot_left p front (x ∷ back) f)
+        | inl q ↦ let o : 0 < p = z.free.above p n in omega arith
+        | inr f ↦ z.free.off p n (slot_left p front (x ∷ back) f)
       ])
 
-  after_join : stood s (new_writes new (entry back 0) ++ (join_write s front (entry new (entry back 0)) ∷ [])) ≡ joined_to (stood s (new_writes new (entry back 0))) front (entry new (entry back 0))
-  after_join =
-      let ws = new_writes new (entry back 0) in
-      let i = entry new (entry back 0) in
-      stood_append s ws (join_write s front i ∷ []) ∙ ap (λ (b : Slot). set (stood s ws) (last_slot 0 front) (relinked i b)) (sym join_same)
+  after_join : stood s (ws ++ (join ∷ [])) ≡ joined_to (stood s ws) front (entry new (entry back 0))
+  after_join = stood_append s ws (join ∷ []) ∙ ap (λ (b : Slot). set (stood s ws) (last_slot 0 front) (relinked (entry new (entry back 0)) b)) (sym join_same)
 
   -- once the join stands, the new records are in the place of x
-  pub joins : Stands k d name issued (stood s (new_writes new (entry back 0) ++ (join_write s front (entry new (entry back 0)) ∷ []))) (front ++ (new ++ back))
-  joins =
-      subst (λ (z : Slots). Stands k d name issued z (front ++ (new ++ back))) (sym after_join)
-      (join_stands k d name issued (stood s (new_writes new (entry back 0))) front x back new laid (new_linked s new (entry back 0) apart low high) apart off)
+  pub joins : Stands k d name issued (stood s (ws ++ (join ∷ []))) (front ++ (new ++ back))
+  joins = rw after_join (join_stands laid (new_linked s new (entry back 0) z.free.apart z.free.above z.free.within))
 
   x_off : In x.slot (slots_of (front ++ (new ++ back))) → ⊥
   x_off m =
+      let apart = apart_parts front (x ∷ back) z.stands.apart in
       elim (slot_cases x.slot front (new ++ back) m) [
-        | inl f ↦ apart_cross front (x ∷ back) st.apart x.slot f (inl refl)
+        | inl f ↦ apart.cross x.slot f (inl refl)
         | inr r ↦ elim (slot_cases x.slot new back r) [
-          | inl n ↦ off x.slot n (slot_right x.slot front (x ∷ back) (inl refl))
-          | inr b ↦ (apart_right front (x ∷ back) st.apart).0 b
+          | inl n ↦ z.free.off x.slot n (slot_right x.slot front (x ∷ back) (inl refl))
+          | inr b ↦ apart.back.0 b
         ]
       ]
 
-  after_all : stood s (redeem_writes s front x back new) ≡ stood (stood s (new_writes new (entry back 0) ++ (join_write s front (entry new (entry back 0)) ∷ []))) (erase_write x ∷ [])
-  after_all =
-      let ws = new_writes new (entry back 0) in
-      let j = join_write s front (entry new (entry back 0)) in
-      stood_append s ws (j ∷ erase_write x ∷ []) ∙ ap (λ (z : Slots). set z x.slot blank) (sym (stood_append s ws (j ∷ [])))
+  after_all : stood s (redeem_writes s front x back new) ≡ stood (stood s (ws ++ (join ∷ []))) (erase_write x ∷ [])
+  after_all = stood_append s ws (join ∷ erase_write x ∷ []) ∙ ap (λ (u : Slots). set u x.slot blank) (sym (stood_append s ws (join ∷ [])))
 
   -- and the erasure leaves them so
   pub erases : Stands k d name issued (stood s (redeem_writes s front x back new)) (front ++ (new ++ back))
   erases =
-      let o : 0 < x.slot = linked_above s (front ++ (x ∷ back)) 0 x.slot st.links (slot_right x.slot front (x ∷ back) (inl refl)) in
-      subst (λ (z : Slots). Stands k d name issued z (front ++ (new ++ back))) (sym after_all)
-      (stands_aside k d name issued (front ++ (new ++ back)) (stood s (new_writes new (entry back 0) ++ (join_write s front (entry new (entry back 0)) ∷ []))) (erase_write x ∷ [])
-      (λ w m. elim m [ inl q ↦ subst (λ (u : Write). (0 < u.slot) × (In u.slot (slots_of (front ++ (new ++ back))) → ⊥)) (sym q) (o, x_off) | inr n ↦ absurd n ])
-      joins)
+      let o = linked_slot s (front ++ (x ∷ back)) 0 x.slot z.stands.links (slot_right x.slot front (x ∷ back) (inl refl)) in
+      rw after_all (stands_aside (erase_write x ∷ []) (λ w m. elim m [ inl q ↦ rw q (o.0, x_off) | inr n ↦ absurd n ]) joins)
 
   -- a slot that is neither the head's nor on the new chain, nor x's, holds what it held
-  rest_same : (i : ℕ) → 0 < i → (In i (slots_of (front ++ (new ++ back))) → ⊥) →
-      get_or (stood s (new_writes new (entry back 0) ++ (join_write s front (entry new (entry back 0)) ∷ []))) i [] ≡ get_or s i []
+  rest_same : (i : ℕ) → 0 < i → (In i (slots_of (front ++ (new ++ back))) → ⊥) → get_or (stood s (ws ++ (join ∷ []))) i [] ≡ get_or s i []
   rest_same i o m =
-      let ws = new_writes new (entry back 0) in
-      let j = join_write s front (entry new (entry back 0)) in
-      stood_other s (ws ++ (j ∷ [])) i (λ w p e.
-      elim (in_cases w ws (j ∷ []) p) [
-        | inl a ↦ m (slot_right i front (new ++ back) (slot_left i new back (subst (λ (z : ℕ). In z (slots_of new)) (sym e) (new_slots new (entry back 0) w a))))
+      stood_other s (ws ++ (join ∷ [])) i (λ w p e.
+      elim (in_cases w ws (join ∷ []) p) [
+        | inl a ↦ m (slot_right i front (new ++ back) (slot_left i new back (rw e (new_slots new (entry back 0) w a))))
         | inr b ↦ elim b [
           | inl q ↦
-              let z : i ≡ last_slot 0 front = e ∙ ap (λ (u : Write). u.slot) q in
+              let y : i ≡ last_slot 0 front = e ∙ ap (λ (u : Write). u.slot) q in
               elim (last_cases front) [
-                | inl y ↦ omega arith
-                | inr f ↦ m (slot_left i front (new ++ back) (subst (λ (w : ℕ). In w (slots_of front)) (sym z) f))
+                | inl l ↦ omega arith
+                | inr f ↦ m (slot_left i front (new ++ back) (rw y f))
               ]
           | inr n ↦ absurd n
         ]
@@ -261,18 +231,16 @@ module _ (k : Kit) (d : ℕ) (name : List ℕ) (issued : ℕ) (s : Slots) (front
   -- where all besides the chain was zero, it is so again
   pub rest_blank : RestBlank s (front ++ (x ∷ back)) → RestBlank (stood s (redeem_writes s front x back new)) (front ++ (new ++ back))
   rest_blank r i o h m =
-      let ws = new_writes new (entry back 0) in
-      let j = join_write s front (entry new (entry back 0)) in
-      let w = stood s (ws ++ (j ∷ [])) in
-      let e : get_or (stood s (redeem_writes s front x back new)) i [] ≡ get_or (set w x.slot blank) i [] = ap (λ (z : Slots). get_or z i []) after_all in
-      let hs : i < length s = subst (λ (n : ℕ). i < n) (length_stood s (redeem_writes s front x back new)) h in
-      let xs : x.slot < length s = linked_within s (front ++ (x ∷ back)) 0 x.slot st.links (slot_right x.slot front (x ∷ back) (inl refl)) in
-      let xw : x.slot < length w = subst (λ (n : ℕ). x.slot < n) (sym (length_stood s (ws ++ (j ∷ [])))) xs in
+      let w = stood s (ws ++ (join ∷ [])) in
+      let e : get_or (stood s (redeem_writes s front x back new)) i [] ≡ get_or (set w x.slot blank) i [] = ap (λ (u : Slots). get_or u i []) after_all in
+      let hs : i < length s = rw (length_stood s (redeem_writes s front x back new)) at h in
+      let lw = length_stood s (ws ++ (join ∷ [])) in
+      let xs = linked_slot s (front ++ (x ∷ back)) 0 x.slot z.stands.links (slot_right x.slot front (x ∷ back) (inl refl)) in
       elim (cases_eq i x.slot) [
-        | inl q ↦ e ∙ ap (λ (z : ℕ). get_or (set w x.slot blank) z []) q ∙ get_or-set_same w x.slot blank [] xw
+        | inl q ↦ e ∙ ap (λ (n : ℕ). get_or (set w x.slot blank) n []) q ∙ get_or-set_same w x.slot blank [] (omega arith)
         | inr q ↦ e ∙ get_or-set_other w x.slot i blank [] q ∙ rest_same i o m ∙ r i o hs (λ c.
             elim (slot_cases i front (x ∷ back) c) [
               | inl f ↦ m (slot_left i front (new ++ back) f)
-              | inr y ↦ elim y [ inl z ↦ q z | inr b ↦ m (slot_right i front (new ++ back) (slot_right i new back b)) ]
+              | inr y ↦ elim y [ inl n ↦ q n | inr b ↦ m (slot_right i front (new ++ back) (slot_right i new back b)) ]
             ])
       ]

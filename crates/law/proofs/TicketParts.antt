@@ -1,47 +1,76 @@
 -- The parts of a ticket are what it was put together from.
-use Rattle.std.proofs.Common.{◌≡◌, ℕ, ◌+◌, ◌^◌, ◌<◌, ◌≤◌, Bool, true, false, eqb, List, [], ◌∷◌, ◌++◌, length, take, drop, refl, ap, ◌∙◌, arith}
+use Rattle.std.proofs.Common.{◌≡◌, ℕ, ◌+◌, ◌^◌, ◌<◌, ◌≤◌, Bool, true, false, List, [], ◌∷◌, ◌++◌, length, take, drop, refl, ap, ◌∙◌, arith, pow_mono}
 use Rattle.std.proofs.lemmas.List.{length-append, take_at, drop_at, take-append-le, drop-append-le}
-use Rattle.std.proofs.lemmas.Bool.{and_from, eq-eqb}
+use Rattle.std.proofs.lemmas.Bool.{eq-eqb}
 use Rattle.octets.specs.Fields.{bytes_of, number_of}
 use Rattle.octets.proofs.Fielded.{length_bytes, number_bytes}
 use Rattle.session.specs.Limits.{most_length}
-use Rattle.tree.specs.Values.{follow}
-use Rattle.rules.specs.Kits.{Kit, Lawful, value_length, name_length, heading_length}
-use Rattle.rules.specs.Tickets.{heading_of, ticket_of, name_in, number_in, heading_in, sealed_in}
+use Rattle.session.proofs.Trip.{most}
+use Rattle.device.specs.Effects.{State}
+use Rattle.tree.specs.Cover.{In}
+use Rattle.tree.specs.Values.{way, follow, key_of}
+use Rattle.sealer.specs.Limits.{name_length, heading_length}
+use Rattle.sealer.specs.Headings.{heading_of}
+use Rattle.generator.specs.Bytes.{value_length}
+use Rattle.rules.specs.Kits.{Kit, Lawful}
+use Rattle.rules.specs.Tickets.{name_in, number_in, heading_in, sealed_in}
 use Rattle.rules.specs.Calls.{same_bytes}
+use Rattle.rules.specs.Books.{Given, Book}
+use Rattle.rules.specs.Pasts.{Mode}
+use Rattle.law.proofs.Invariant.{Inv}
 
 -- a value at the end of any way is as long as one at its start
-pub follow_long : (k : Kit) → Lawful k → (v : List ℕ) (bs : List Bool) → length v ≡ value_length → length (follow k.expansion v bs) ≡ value_length
+pub follow_long : (k : Kit) → Lawful k → (v : List ℕ) (bs : List Bool) → length v ≡ value_length → length (follow k.generator.expansion v bs) ≡ value_length
 follow_long k w v [] q = q
-follow_long k w v (false ∷ bs) q = follow_long k w (k.expansion.left v) bs (w.on_left v q)
-follow_long k w v (true ∷ bs) q = follow_long k w (k.expansion.right v) bs (w.on_right v q)
+follow_long k w v (false ∷ bs) q = follow_long k w (k.generator.expansion.left v) bs (w.lengths.on_left v q)
+follow_long k w v (true ∷ bs) q = follow_long k w (k.generator.expansion.right v) bs (w.lengths.on_right v q)
 
 pub same_self : (xs : List ℕ) → same_bytes xs xs ≡ true
 same_self [] = refl
-same_self (x ∷ xs) = and_from (eqb x x) (same_bytes xs xs) (eq-eqb x x refl) (same_self xs)
+same_self (x ∷ xs) = rw (eq-eqb x x refl, same_self xs)
 
-module _ (k : Kit) (name : List ℕ) (n : ℕ) (key plain : List ℕ) (named : length name ≡ name_length) where
-  pub heading_long : length (heading_of name n) ≡ heading_length
-  heading_long = omega (arith, length-append name (bytes_of 4 n), length_bytes 4 n)
+heading_long : (name : List ℕ) (n : ℕ) → length name ≡ name_length → length (heading_of name n) ≡ heading_length
+heading_long name n named = omega (arith, length-append name (bytes_of 4 n), length_bytes 4 n)
 
-  pub heading_in_is : heading_in (ticket_of k name n key plain) ≡ heading_of name n
-  heading_in_is = take_at (heading_of name n) (k.sealing key (heading_of name n) plain) heading_length heading_long
+number_at : (name : List ℕ) (n : ℕ) (rest : List ℕ) → length name ≡ name_length → n < 2 ^ 32 → number_of (take 4 (drop name_length (heading_of name n ++ rest))) ≡ n
+number_at name n rest named l =
+    let a : drop name_length (heading_of name n ++ rest) ≡ bytes_of 4 n ++ rest =
+    drop-append-le name_length (heading_of name n) rest (omega (arith, heading_long name n named)) ∙ ap (λ (l : List ℕ). l ++ rest) (drop_at name (bytes_of 4 n) name_length named) in
+    ap (λ (l : List ℕ). number_of (take 4 l)) a ∙ ap number_of (take_at (bytes_of 4 n) rest 4 (length_bytes 4 n)) ∙ number_bytes 4 n l
 
-  pub sealed_in_is : sealed_in (ticket_of k name n key plain) ≡ k.sealing key (heading_of name n) plain
-  sealed_in_is = drop_at (heading_of name n) (k.sealing key (heading_of name n) plain) heading_length heading_long
+name_at : (name : List ℕ) (n : ℕ) (rest : List ℕ) → length name ≡ name_length → take name_length (heading_of name n ++ rest) ≡ name
+name_at name n rest named = take-append-le name_length (heading_of name n) rest (omega (arith, heading_long name n named)) ∙ take_at name (bytes_of 4 n) name_length named
 
-  pub name_in_is : name_in (ticket_of k name n key plain) ≡ name
-  name_in_is =
-      take-append-le name_length (heading_of name n) (k.sealing key (heading_of name n) plain) (omega (arith, heading_long))
-      ∙ take_at name (bytes_of 4 n) name_length named
+-- ---- of a ticket that was given
+module _ {k : Kit} {d : ℕ} {root name : List ℕ} {m : Mode} {s : State} {b : Book} (small : d ≤ 16) (v : Inv k d root name m s b) (g : Given) (given : In g b.given) where
+  abbrev sealed : List ℕ
+  sealed = k.sealer.sealing (key_of k.generator.expansion d root g.number) (heading_of name g.number) g.state
 
-  pub number_in_is : n < 2 ^ 32 → number_in (ticket_of k name n key plain) ≡ n
-  number_in_is l =
-      let rest : List ℕ = k.sealing key (heading_of name n) plain in
-      let a : drop name_length (heading_of name n ++ rest) ≡ bytes_of 4 n ++ rest =
-      drop-append-le name_length (heading_of name n) rest (omega (arith, heading_long)) ∙ ap (λ (l : List ℕ). l ++ rest) (drop_at name (bytes_of 4 n) name_length named) in
-      ap (λ (l : List ℕ). number_of (take 4 l)) a ∙ ap number_of (take_at (bytes_of 4 n) rest 4 (length_bytes 4 n)) ∙ number_bytes 4 n l
+  pub number_is : number_in g.ticket ≡ g.number
+  number_is =
+      let p : 2 ^ d ≤ 2 ^ 16 = pow_mono small in
+      ap number_in (v.tickets g given) ∙ number_at name g.number sealed v.named (omega (arith, v.issued g given, v.counted))
 
-  pub ticket_long : Lawful k → length key ≡ value_length → length plain ≤ most_length → length (ticket_of k name n key plain) ≡ heading_length + (length plain + k.overhead)
-  ticket_long w a b =
-      omega (arith, heading_long, length-append (heading_of name n) (k.sealing key (heading_of name n) plain), w.long key (heading_of name n) plain a heading_long b)
+  pub name_is : name_in g.ticket ≡ name
+  name_is = ap name_in (v.tickets g given) ∙ name_at name g.number sealed v.named
+
+  heading_is : heading_in g.ticket ≡ heading_of name g.number
+  heading_is = ap heading_in (v.tickets g given) ∙ take_at (heading_of name g.number) sealed heading_length (heading_long name g.number v.named)
+
+  pub heading_in_long : length (heading_in g.ticket) ≡ heading_length
+  heading_in_long = ap length heading_is ∙ heading_long name g.number v.named
+
+  pub state_most : length g.state ≤ most_length
+  state_most = most g.state (v.records g given)
+
+  -- its state is sealed in it under the key of its number
+  pub seals_state : k.sealer.sealing (key_of k.generator.expansion d root (number_in g.ticket)) (heading_in g.ticket) g.state ≡ sealed_in g.ticket
+  seals_state =
+      let z : sealed_in g.ticket ≡ sealed = ap sealed_in (v.tickets g given) ∙ drop_at (heading_of name g.number) sealed heading_length (heading_long name g.number v.named) in
+      rw (number_is, heading_is, z)
+
+  pub ticket_long : Lawful k → length g.ticket ≡ heading_length + (length g.state + k.sealer.overhead)
+  ticket_long w =
+      let key = key_of k.generator.expansion d root g.number in
+      let long = w.seals.long key (heading_of name g.number) g.state (follow_long k w root (way d 0 g.number) v.rooted) (heading_long name g.number v.named) state_most in
+      omega (arith, ap length (v.tickets g given), heading_long name g.number v.named, length-append (heading_of name g.number) sealed, long)

@@ -4,7 +4,7 @@ use Rattle.std.specs.Prelude.{◌≡◌, ℕ, ◌-◌, ◌^◌, ◌<◌, ◌≤�
 use Rattle.octets.specs.Buffers.{filled}
 use Rattle.refusal.specs.declared.Refusal.TheVariants.{NoPower}
 use Rattle.fault.specs.declared.Halt.{Halt}
-use Rattle.device.specs.Effects.{Slots, blank}
+use Rattle.device.specs.Effects.{Slots, blank, State}
 use Rattle.session.specs.Limits.{most_length}
 use Rattle.layout.specs.declared.Head.{Head}
 use Rattle.tree.specs.declared.Node.{Node}
@@ -13,7 +13,7 @@ use Rattle.tree.specs.Cover.{In, Free, Distinct, cover, CoversExactly}
 use Rattle.tree.specs.Values.{value_of, key_of, valued_cover, WorkedOut}
 use Rattle.marks.specs.Rows.{room_of}
 use Rattle.chain.specs.Reading.{Link, valued_of, slots_of, file_of, sound}
-use Rattle.rules.specs.Kits.{Kit, Lawful}
+use Rattle.rules.specs.Kits.{Kit, Lawful, numbers_in}
 use Rattle.rules.specs.Tickets.{ticket_of}
 use Rattle.rules.specs.Calls.{Outcome, Issuing, Redeeming}
 use Rattle.rules.specs.Books.{Given, Book}
@@ -29,13 +29,13 @@ pub record CoverLaw (k : Kit) (d : ℕ) (root name : List ℕ) (s : Slots) (b : 
   pub head : Head
   pub links : List Link
   -- the file reads as a head and a chain,
-  pub read : file_of d k.generator k.sealer s ≡ sound head links
+  pub read : file_of d (numbers_in k) s ≡ sound head links
   pub counted : head.issued ≡ b.issued
   pub named : head.name ≡ name
   -- the chain's nodes are the cover, in order, each with its value in the tree,
-  pub covers : map valued_of links ≡ valued_cover k.expansion d root b.spent
+  pub covers : map valued_of links ≡ valued_cover k.generator.expansion d root b.spent
   -- the chain leads to a number's key just where that number is unspent,
-  pub keys : (n : ℕ) → n < 2 ^ d → WorkedOut k.expansion d (map valued_of links) n (key_of k.expansion d root n) ↔ (In n b.spent → ⊥)
+  pub keys : (n : ℕ) → n < 2 ^ d → WorkedOut k.generator.expansion d (map valued_of links) n (key_of k.generator.expansion d root n) ↔ (In n b.spent → ⊥)
   -- and it takes at least as many nodes to cover the unspent numbers and no spent one
   pub least : (ys : List Node) → CoversExactly d b.spent ys → length links ≤ length ys
 
@@ -44,17 +44,17 @@ pub record CoverLaw (k : Kit) (d : ℕ) (root name : List ℕ) (s : Slots) (b : 
 abbrev pub Uncut : {A : Type 0} → Result A Halt → Type 0
 Uncut r = (h : Halt) → r ≡ Err h → h.refusal ≢ NoPower
 
-pub record OnceLaw (k : Kit) (d : ℕ) (root name : List ℕ) (m : Mode) (s : Slots) (on : Bool) (b : Book) : Type 0 where
+pub record OnceLaw (k : Kit) (d : ℕ) (root name : List ℕ) (m : Mode) (s : State) (b : Book) : Type 0 where
   -- of the redemptions that gave a state no two were of one number
   pub once : Distinct b.opened
   -- each ticket that was handed out is its heading and its record, sealed under the key of its number
-  pub tickets : (g : Given) → In g b.given → g.ticket ≡ ticket_of k name g.number (key_of k.expansion d root g.number) g.state
+  pub tickets : (g : Given) → In g b.given → g.ticket ≡ ticket_of k name g.number (key_of k.generator.expansion d root g.number) g.state
   -- a ticket whose number is not spent opens as what it was issued for, when it is the next to be redeemed: the buffers must be long
   -- enough, enough slots free, and no cut may come
   pub opens : m ≡ running → (g : Given) → In g b.given → (In g.number b.spent → ⊥) →
-      (x : Node) → In x (cover d b.spent) → Covers d x g.number → d - x.depth ≤ length s - 1 - length (cover d b.spent) →
-      (room marks : ℕ) → most_length ≤ room → room_of (length s) ≤ marks →
-      (r : Outcome) (state : List ℕ) (t : Slots) (on' joined : Bool) → Redeeming k d s on g.ticket room marks r state t on' joined → Uncut r →
+      (x : Node) → In x (cover d b.spent) → Covers d x g.number → d - x.depth ≤ length s.slots - 1 - length (cover d b.spent) →
+      (room marks : ℕ) → most_length ≤ room → room_of (length s.slots) ≤ marks →
+      (r : Outcome) (state : List ℕ) (t : State) (joined : Bool) → Redeeming k d s g.ticket room marks r state t joined → Uncut r →
       (r ≡ Ok (length g.state, d - x.depth)) × (state ≡ filled g.state room)
 
 -- ---- alike
@@ -68,48 +68,48 @@ pub record Reply : Type 0 where
   pub buffer : List ℕ
 
 -- calls one after another, none of them cut
-pub data Served (k : Kit) (d : ℕ) : Slots → Bool → List Ask → List Reply → Type 0 where
-  done : (s : Slots) (on : Bool) → Served k d s on [] []
-  issues : (s : Slots) (on : Bool) (plain : List ℕ) (room marks : ℕ) (r : Outcome) (ticket : List ℕ) (t : Slots) (on' headed : Bool) (asks : List Ask) (replies : List Reply) →
-      Issuing k d s on plain room marks r ticket t on' headed → Uncut r → Served k d t on' asks replies →
-      Served k d s on (issuing plain room marks ∷ asks) (record { outcome = r; buffer = ticket } ∷ replies)
-  redeems : (s : Slots) (on : Bool) (ticket : List ℕ) (room marks : ℕ) (r : Outcome) (state : List ℕ) (t : Slots) (on' joined : Bool) (asks : List Ask) (replies : List Reply) →
-      Redeeming k d s on ticket room marks r state t on' joined → Uncut r → Served k d t on' asks replies →
-      Served k d s on (redeeming ticket room marks ∷ asks) (record { outcome = r; buffer = state } ∷ replies)
+pub data Served (k : Kit) (d : ℕ) : State → List Ask → List Reply → Type 0 where
+  done : (s : State) → Served k d s [] []
+  issues : (s : State) (plain : List ℕ) (room marks : ℕ) (r : Outcome) (ticket : List ℕ) (t : State) (headed : Bool) (asks : List Ask) (replies : List Reply) →
+      Issuing k d s plain room marks r ticket t headed → Uncut r → Served k d t asks replies →
+      Served k d s (issuing plain room marks ∷ asks) (record { outcome = r; buffer = ticket } ∷ replies)
+  redeems : (s : State) (ticket : List ℕ) (room marks : ℕ) (r : Outcome) (state : List ℕ) (t : State) (joined : Bool) (asks : List Ask) (replies : List Reply) →
+      Redeeming k d s ticket room marks r state t joined → Uncut r → Served k d t asks replies →
+      Served k d s (redeeming ticket room marks ∷ asks) (record { outcome = r; buffer = state } ∷ replies)
 
 -- Two trees to be compared. Their servers have the same sealing, overhead and slot count, as many numbers issued and the same ones spent,
 -- and each node over unspent numbers alone has the same value in both.
 pub record Agree (d : ℕ) (k : Kit) (root : List ℕ) (s : Slots) (b : Book) (k' : Kit) (root' : List ℕ) (s' : Slots) (b' : Book) : Type 0 where
-  pub sealing : k.sealing ≡ k'.sealing
-  pub overhead : k.overhead ≡ k'.overhead
+  pub sealing : k.sealer.sealing ≡ k'.sealer.sealing
+  pub overhead : k.sealer.overhead ≡ k'.sealer.overhead
   pub slots : length s ≡ length s'
   pub issued : b.issued ≡ b'.issued
   pub spent : (n : ℕ) → In n b.spent ↔ In n b'.spent
-  pub values : (x : Node) → IsNode d x → Free d b.spent x → value_of k.expansion d root x ≡ value_of k'.expansion d root' x
+  pub values : (x : Node) → IsNode d x → Free d b.spent x → value_of k.generator.expansion d root x ≡ value_of k'.generator.expansion d root' x
 
-pub record AlikeLaw (k : Kit) (d : ℕ) (s : Slots) (on : Bool) (k' : Kit) (s' : Slots) (on' : Bool) : Type 0 where
+pub record AlikeLaw (k : Kit) (d : ℕ) (s : State) (k' : Kit) (s' : State) : Type 0 where
   pub head : Head
   pub links : List Link
-  pub read : file_of d k.generator k.sealer s ≡ sound head links
+  pub read : file_of d (numbers_in k) s.slots ≡ sound head links
   pub head' : Head
   pub links' : List Link
-  pub read' : file_of d k'.generator k'.sealer s' ≡ sound head' links'
+  pub read' : file_of d (numbers_in k') s'.slots ≡ sound head' links'
   pub chains : map valued_of links ≡ map valued_of links'
-  pub rest : RestBlank s links
-  pub rest' : RestBlank s' links'
-  pub answers : (asks : List Ask) (replies replies' : List Reply) → Served k d s on asks replies → Served k' d s' on' asks replies' → replies ≡ replies'
+  pub rest : RestBlank s.slots links
+  pub rest' : RestBlank s'.slots links'
+  pub answers : (asks : List Ask) (replies replies' : List Reply) → Served k d s asks replies → Served k' d s' asks replies' → replies ≡ replies'
 
 -- ---- the whole, of the trees in use
 pub record Law : Type 0 where
   -- a running server's power is on,
-  pub power_is_on : (k : Kit) (root name : List ℕ) (s : Slots) (on : Bool) (b : Book) → Past k tree_levels root name running s on b → on ≡ true
+  pub power_is_on : (k : Kit) (root name : List ℕ) (s : State) (b : Book) → Past k tree_levels root name running s b → s.power ≡ true
   -- and its free slots are zero
-  pub free_slots_are_zero : (k : Kit) (root name : List ℕ) (s : Slots) (on : Bool) (b : Book) → Past k tree_levels root name running s on b →
-      (h : Head) (xs : List Link) → file_of tree_levels k.generator k.sealer s ≡ sound h xs → RestBlank s xs
-  pub cover : (k : Kit) (root name : List ℕ) (m : Mode) (s : Slots) (on : Bool) (b : Book) → Past k tree_levels root name m s on b →
-      CoverLaw k tree_levels root name s b
-  pub once : (k : Kit) (root name : List ℕ) (m : Mode) (s : Slots) (on : Bool) (b : Book) → Lawful k → Past k tree_levels root name m s on b →
-      OnceLaw k tree_levels root name m s on b
-  pub alike : (k k' : Kit) (root root' name : List ℕ) (s s' : Slots) (on on' : Bool) (b b' : Book) → Lawful k → Lawful k' →
-      Past k tree_levels root name running s on b → Past k' tree_levels root' name running s' on' b' →
-      Agree tree_levels k root s b k' root' s' b' → AlikeLaw k tree_levels s on k' s' on'
+  pub free_slots_are_zero : (k : Kit) (root name : List ℕ) (s : State) (b : Book) → Past k tree_levels root name running s b →
+      (h : Head) (xs : List Link) → file_of tree_levels (numbers_in k) s.slots ≡ sound h xs → RestBlank s.slots xs
+  pub cover : (k : Kit) (root name : List ℕ) (m : Mode) (s : State) (b : Book) → Past k tree_levels root name m s b →
+      CoverLaw k tree_levels root name s.slots b
+  pub once : (k : Kit) (root name : List ℕ) (m : Mode) (s : State) (b : Book) → Lawful k → Past k tree_levels root name m s b →
+      OnceLaw k tree_levels root name m s b
+  pub alike : (k k' : Kit) (root root' name : List ℕ) (s s' : State) (b b' : Book) → Lawful k → Lawful k' →
+      Past k tree_levels root name running s b → Past k' tree_levels root' name running s' b' →
+      Agree tree_levels k root s.slots b k' root' s'.slots b' → AlikeLaw k tree_levels s k' s'

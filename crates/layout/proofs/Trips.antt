@@ -1,27 +1,16 @@
 -- The round trips of the two records.
-use Rattle.std.proofs.Common.{◌≡◌, ℕ, zero, suc, ◌+◌, ◌^◌, ◌<◌, ◌≤◌, Bool, true, false, cond, eqb, leb, List, [], ◌∷◌, ◌++◌, length, get_or, take, drop, Some, None, sym, refl, ap, ◌∙◌, subst, ⊎_elim, arith}
+use Rattle.std.proofs.Common.{◌≡◌, ℕ, ◌+◌, ◌^◌, ◌<◌, ◌≤◌, true, eqb, leb, List, ◌∷◌, ◌++◌, length, get_or, take, drop, Some, sym, refl, ap, ◌∙◌, subst, ⊎_elim, arith}
 use Rattle.std.proofs.lemmas.List.{length-drop, length-take, length-take-le, take_at, drop_at, take_all, take-append-drop, drop-drop, drop_more, get_or-take, get_or-drop, get_or_past}
+use Rattle.std.proofs.lemmas.Option.{cond_some}
 use Rattle.std.proofs.lemmas.Bool.{cases_lt, and_parts, eq-eqb, le-leb, eqb-true, leb-true}
 use Rattle.octets.specs.Buffers.{zeros, is_blank}
 use Rattle.octets.specs.Fields.{bytes_of, number_of}
+use Rattle.octets.proofs.Blank.{zeros_from_blank}
 use Rattle.octets.proofs.Fielded.{length_bytes, number_bytes, bytes_number, number2, number4}
 use Rattle.layout.specs.declared.Head.{Head}
 use Rattle.layout.specs.declared.NodeFields.{NodeFields}
 use Rattle.layout.specs.Records.{part, is_head, head_fields, encode_head, head_of, is_record, node_fields, encode_node, node_of, value_of}
 use Rattle.layout.specs.Trips.{IsSlot, HeadFits, HeadTrip, NodeFits, NodeTrip}
-
--- n zeros pass the test, and what passes it is zeros
-pub zeros_pass : (n : ℕ) → is_blank (zeros n) ≡ true
-zeros_pass zero = refl
-zeros_pass (suc n) = zeros_pass n
-
-pub pass_zeros : (bs : List ℕ) → is_blank bs ≡ true → bs ≡ zeros (length bs)
-pass_zeros [] e = refl
-pass_zeros (b ∷ bs) e =
-    let p = and_parts (eqb b 0) (is_blank bs) e in
-    let z : b ≡ 0 = eqb-true b 0 p.0 in
-    let r : bs ≡ zeros (length bs) = pass_zeros bs p.1 in
-    ap (λ (x : ℕ). x ∷ bs) z ∙ ap (λ (xs : List ℕ). 0 ∷ xs) r
 
 -- a part of 64 bytes is bytes
 part_small : (at n : ℕ) (bs : List ℕ) → ((k : ℕ) → get_or bs k 0 < 256) → (k : ℕ) → get_or (part at n bs) k 0 < 256
@@ -42,14 +31,14 @@ cut : (at n : ℕ) (bs : List ℕ) → part at n bs ++ drop (at + n) bs ≡ drop
 cut at n bs = ap (λ (x : List ℕ). part at n bs ++ x) (sym (drop-drop n at bs)) ∙ take-append-drop n (drop at bs)
 
 blank_part : (at n : ℕ) (bs : List ℕ) → length bs ≡ 64 → at + n ≤ 64 → is_blank (part at n bs) ≡ true → part at n bs ≡ zeros n
-blank_part at n bs e h z = pass_zeros (part at n bs) z ∙ ap zeros (part_long at n bs e h)
+blank_part at n bs e h z = zeros_from_blank (part at n bs) z ∙ ap zeros (part_long at n bs e h)
 
 head_back : (d : ℕ) (h : Head) → HeadFits d h → head_of d (encode_head d h) ≡ Some h
 unfolding head_of encode_head
 head_back d h f =
     let a : List ℕ = bytes_of 2 h.first in
     let b : List ℕ = bytes_of 4 h.issued in
-    let r : List ℕ = h.generator ∷ h.sealer ∷ zeros 36 in
+    let r : List ℕ = h.numbers.generator ∷ h.numbers.sealer ∷ zeros 36 in
     let x : List ℕ = a ++ (b ++ (h.name ++ r)) in
     let d2 : drop 2 x ≡ b ++ (h.name ++ r) = drop_at a (b ++ (h.name ++ r)) 2 (length_bytes 2 h.first) in
     let d6 : drop 6 x ≡ h.name ++ r = sym (drop-drop 4 2 x) ∙ ap (drop 4) d2 ∙ drop_at b (h.name ++ r) 4 (length_bytes 4 h.issued) in
@@ -60,8 +49,8 @@ head_back d h f =
     let two : number_of (take 4 (drop 2 x)) ≡ h.issued =
     ap (λ (y : List ℕ). number_of (take 4 y)) d2 ∙ ap number_of (take_at b (h.name ++ r) 4 (length_bytes 4 h.issued)) ∙ number_bytes 4 h.issued f.word in
     let three : take 16 (drop 6 x) ≡ h.name = ap (take 16) d6 ∙ take_at h.name r 16 f.name in
-    let four : get_or x 22 0 ≡ h.generator = sym (get_or-drop 22 x 0 0) ∙ ap (λ (y : List ℕ). get_or y 0 0) d22 in
-    let five : get_or x 23 0 ≡ h.sealer = sym (get_or-drop 22 x 1 0) ∙ ap (λ (y : List ℕ). get_or y 1 0) d22 in
+    let four : get_or x 22 0 ≡ h.numbers.generator = sym (get_or-drop 22 x 0 0) ∙ ap (λ (y : List ℕ). get_or y 0 0) d22 in
+    let five : get_or x 23 0 ≡ h.numbers.sealer = sym (get_or-drop 22 x 1 0) ∙ ap (λ (y : List ℕ). get_or y 1 0) d22 in
     let blank : is_blank (take 36 (drop 24 x)) ≡ true = ap (λ (y : List ℕ). is_blank (take 36 y)) d24 in
     let same : eqb d d ≡ true = eq-eqb d d refl in
     let few : leb h.issued (2 ^ d) ≡ true = le-leb h.issued (2 ^ d) f.issued in
@@ -104,15 +93,10 @@ head_whole d bs s t =
       },
     )
 
--- what a test lets through
-passed : {A : Type 0} (b : Bool) (x y : A) → cond b (Some x) None ≡ Some y → (b ≡ true) × (x ≡ y)
-passed true x y e = (refl, cc)
-passed false x y e = let z : ◌≡◌ {A = ℕ} 0 1 = cc in absurd (omega arith)
-
 head_forth : (d : ℕ) (bs : List ℕ) (h : Head) → IsSlot bs → head_of d bs ≡ Some h → (encode_head d h ≡ bs) × HeadFits d h
 unfolding head_of
 head_forth d bs h s e =
-    let p = passed (is_head d bs) (head_fields bs) h e in
+    let p = cond_some (is_head d bs) (head_fields bs) h e in
     let P : Head → Type 0 = λ g. (encode_head d g ≡ bs) × HeadFits d g in
     subst P p.1 (head_whole d bs s p.0)
 
@@ -154,7 +138,7 @@ node_whole d bs s t =
 node_forth : (d : ℕ) (bs : List ℕ) (x : NodeFields) → IsSlot bs → node_of d bs ≡ Some x → (encode_node x (value_of bs) ≡ bs) × NodeFits d x
 unfolding node_of
 node_forth d bs x s e =
-    let p = passed (is_record d bs) (node_fields bs) x e in
+    let p = cond_some (is_record d bs) (node_fields bs) x e in
     let P : NodeFields → Type 0 = λ y. (encode_node y (value_of bs) ≡ bs) × NodeFits d y in
     subst P p.1 (node_whole d bs s p.0)
 

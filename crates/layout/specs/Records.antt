@@ -4,7 +4,7 @@ use Rattle.octets.specs.Buffers.{zeros, is_blank}
 use Rattle.octets.specs.Fields.{bytes_of, number_of}
 use Rattle.layout.specs.declared.Head.{Head}
 use Rattle.layout.specs.declared.NodeFields.{NodeFields}
-use Rattle.layout.specs.declared.Numbers.{Numbers}
+use Rattle.tree.specs.declared.Node.{Node}
 
 -- the n bytes from a place on
 abbrev pub part : ℕ → ℕ → List ℕ → List ℕ
@@ -13,7 +13,7 @@ part at n bs = take n (drop at bs)
 -- ---- the head, field by field: 1 and the levels (a byte each), two zeros, the first index (2 bytes), how many numbers
 -- are issued (4), the key name (16), the generator's number and the sealer's (a byte each), and zeros
 unfoldable pub encode_head : ℕ → Head → List ℕ
-encode_head d h = 1 ∷ d ∷ 0 ∷ 0 ∷ (bytes_of 2 h.first ++ (bytes_of 4 h.issued ++ (h.name ++ (h.generator ∷ h.sealer ∷ zeros 36))))
+encode_head d h = 1 ∷ d ∷ 0 ∷ 0 ∷ (bytes_of 2 h.first ++ (bytes_of 4 h.issued ++ (h.name ++ (h.numbers.generator ∷ h.numbers.sealer ∷ zeros 36))))
 
 -- what stands in the fields of a head
 abbrev pub head_fields : List ℕ → Head
@@ -21,13 +21,8 @@ head_fields bs = record {
   first = number_of (part 4 2 bs);
   issued = number_of (part 6 4 bs);
   name = part 10 16 bs;
-  generator = slice_index bs 26;
-  sealer = slice_index bs 27;
+  numbers = record { generator = slice_index bs 26; sealer = slice_index bs 27 };
 }
-
--- the numbers that a head names
-abbrev pub numbers_of : Head → Numbers
-numbers_of h = record { generator = h.generator; sealer = h.sealer }
 
 -- laid out as a head: the first two bytes, the zeros, and no more numbers issued than the tree has
 abbrev pub is_head : ℕ → List ℕ → Bool
@@ -41,6 +36,10 @@ head_of d bs = cond (is_head d bs) (Some (head_fields bs)) None
 -- 26 zeros, and the value (32)
 unfoldable pub encode_node : NodeFields → List ℕ → List ℕ
 encode_node x v = 2 ∷ x.depth ∷ (bytes_of 2 x.first ++ (bytes_of 2 x.next ++ (zeros 26 ++ v)))
+
+-- the fields of a node's record that leads on to the index `next`
+abbrev pub fields_of : Node → ℕ → NodeFields
+fields_of x next = record { depth = x.depth; first = x.first; next = next }
 
 abbrev pub node_fields : List ℕ → NodeFields
 node_fields bs = record { depth = slice_index bs 1; first = number_of (part 2 2 bs); next = number_of (part 4 2 bs) }

@@ -4,13 +4,17 @@
 //! material and stays where it lies, in the last 32 bytes of its slot.
 #![tactic(auto)]
 
-ghost use Rattle.std.specs.Prelude.{◌≡◌, ℕ, ◌%◌, ◌^◌, ◌==◌, nat_le};
-ghost use Rattle.layout.specs.Records.{is_node, encode_head, is_head, head_of, numbers_of, encode_node, is_record, node_of, value_of, relinked, recounted};
+ghost use Rattle.std.specs.Prelude.{◌≡◌, ℕ, ◌%◌, ◌^◌, ◌<◌, ◌==◌, nat_le};
+ghost use Rattle.tree.specs.Nodes.{node_at};
+ghost use Rattle.layout.specs.Records.{is_node, encode_head, is_head, head_of, fields_of, encode_node, is_record, node_of, value_of, relinked, recounted};
 ghost use Rattle.layout.specs.Trips.{HeadTrip, NodeTrip};
 
 use octets::{get, is_blank, put};
+use tree::Node;
 
-// The first byte of each record.
+// A slot has 64 bytes here, and a key name 16, by no constant of crates device and sealer: a layout stands on no device and no sealer.
+
+// The first byte of each record. Bytes and no enum: a slot may begin with any other, and then it holds no record.
 const HEAD: u8 = 1;
 
 const NODE: u8 = 2;
@@ -33,6 +37,7 @@ const FIRST_AT: usize = 2;
 const VALUE_AT: usize = 32;
 
 /// The generator's number and the sealer's, as a key file names them.
+// plain numbers: which generators and sealers there are is not known here
 #[derive(Clone, Copy, PartialEq, Eq)]
 pub struct Numbers {
     pub generator: u8,
@@ -43,28 +48,15 @@ pub struct Numbers {
 #[derive(Clone, Copy)]
 pub struct Head {
     /// the slot of the chain's first record, 0 for none
-    // no Option: `Some(0)` would have no bytes of its own, and not every head would be read back as it was laid out
+    // no Option: `Some(0)` would have no bytes of its own, and an Option of a nonzero number would be taken apart wherever an index is
+    // read, written or compared
     pub first: u16,
     /// how many numbers are issued
     pub issued: u32,
     /// the key name
     pub name: [u8; 16],
-    /// the generator's number
-    pub generator: u8,
-    /// the sealer's number
-    pub sealer: u8,
-}
-
-impl Head {
-    /// The numbers that the head names.
-    pub fn numbers(&self) -> Numbers
-        ensures { result ≡ numbers_of self.now }
-    {
-        Numbers {
-            generator: self.generator,
-            sealer: self.sealer,
-        }
-    }
+    /// the generator's number and the sealer's
+    pub numbers: Numbers,
 }
 
 /// What a record of the chain says of its node, beside the value.
@@ -74,8 +66,34 @@ pub struct NodeFields {
     /// the first number that the node covers
     pub first: u16,
     /// the slot of the next record, 0 for none
-    // no Option: as in a head, `Some(0)` would not be read back
+    // no Option: as in a head
     pub next: u16,
+}
+
+impl NodeFields {
+    /// The fields of a node's record that leads on to the slot `next`. A record has two bytes for the first number.
+    pub fn of(node: &Node, next: u16) -> NodeFields
+        requires { node.now.first < 2 ^ 16 }
+        ensures { result ≡ fields_of node.now next }
+    {
+        NodeFields {
+            depth: node.depth,
+            first: node.first as u16,
+            next,
+        }
+    }
+}
+
+/// The node that a record is of.
+impl From<NodeFields> for Node {
+    ghost from_gives = { λ fields node. node ≡ node_at fields.depth fields.first };
+
+    fn from(fields: NodeFields) -> Node {
+        Node {
+            depth: fields.depth,
+            first: u32::from(fields.first),
+        }
+    }
 }
 
 /// Lays the head out in a slot.
@@ -89,8 +107,8 @@ pub fn encode_head(levels: u8, head: &Head, slot: &mut [u8; 64])
     slot[1] = levels;
     put(slot, LINK_AT, head.first);
     put(slot, ISSUED_AT, head.issued);
-    slot[GENERATOR_AT] = head.generator;
-    slot[SEALER_AT] = head.sealer;
+    slot[GENERATOR_AT] = head.numbers.generator;
+    slot[SEALER_AT] = head.numbers.sealer;
     slot[NAME_AT..GENERATOR_AT].copy_from_slice(&head.name);
 }
 
@@ -103,14 +121,14 @@ pub fn decode_head(levels: u8, slot: &[u8; 64]) -> Option<Head>
     if !is_head(levels, slot) {
         return None;
     }
-    let mut name = [0; 16];
-    name.copy_from_slice(&slot[NAME_AT..GENERATOR_AT]);
     Some(Head {
         first: get(slot, LINK_AT),
         issued: get(slot, ISSUED_AT),
-        name,
-        generator: slot[GENERATOR_AT],
-        sealer: slot[SEALER_AT],
+        name: slot[NAME_AT..GENERATOR_AT].try_into().ok()?,
+        numbers: Numbers {
+            generator: slot[GENERATOR_AT],
+            sealer: slot[SEALER_AT],
+        },
     })
 }
 

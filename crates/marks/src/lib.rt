@@ -12,6 +12,7 @@ pub fn room(slots: usize) -> usize
     slots // a byte for each
 }
 
+// A mark is a byte, and no bool: marks lie in a lent row of bytes, and zeros clear it as they clear every lent row.
 /// Marks a slot. A slot that the row has no room for stays as it is.
 #[tactic(auto, using(crate::proofs::Laws::mark_laws), unfolding(crate::specs::Rows::with_mark))]
 pub fn mark(row: &mut [u8], slot: usize)

@@ -1,8 +1,7 @@
 -- The laws of slots in a row of bytes.
 use Rattle.std.proofs.Common.{◌≡◌, ℕ, zero, suc, ◌+◌, ◌*◌, ◌/◌, ◌<◌, ◌≤◌, List, [], ◌++◌, length, get_or, take, drop, set, sym, refl, ap, ◌∙◌, append_assoc, mul-le-mul_right, suc-mul, zero-add, zero-mul, arith}
 use Rattle.std.proofs.Math.Nat.{mul_assoc, div-mul-le_self}
-use lib.Seq.{paste, paste-zero}
-use borrow.Rule.Slice.PartMut.{put_mid}
+use lib.Seq.{paste}
 use Rattle.std.proofs.lemmas.List.{drop-drop, drop-take, take-take, take_at, drop_at, take_all, drop_all, append-nil, take-append-le, drop-append-le, take-append-drop, length-take, length-drop, length-append}
 use Rattle.device.specs.Effects.{torn, slot_size}
 use Rattle.medium.specs.Rows.{slots_in, slots_of}
@@ -99,17 +98,5 @@ whole w n row f i b h l =
     let all : take w b ≡ b = take_all w b (omega arith) in
     let new : torn w old b ≡ b = ap (λ t. take w b ++ t) none ∙ append-nil (take w b) ∙ all in
     pasted w n row f i w b h (omega arith) l ∙ ap (set (slots_in w n row) i) new
-
--- nothing pasted
-pub paste_none : (row : List ℕ) (at : ℕ) (b : List ℕ) → paste row at b 0 ≡ row
-paste_none row at b = sym (paste-zero row at b)
-
--- what a write of b to `row[at..at + k]` leaves
-pub put_whole : (at k : ℕ) (row b : List ℕ) → k ≡ length b → put_mid at k row b ≡ paste row at b (length b)
-put_whole at k row b f =
-    ap (λ n. put_mid at n row b) f
-    ∙ ap (λ t. take at row ++ (b ++ t)) (drop-drop (length b) at row)
-    ∙ ap (λ t. take at row ++ (t ++ drop (at + length b) row)) (sym (take_all (length b) b (omega arith)))
-    ∙ sym (append_assoc (take at row) (take (length b) b) (drop (at + length b) row))
 
 pub ruleset slots = (many, place)

@@ -3,11 +3,10 @@
 
 ghost use Rattle.std.specs.Prelude.{◌≡◌, ◌+◌, ◌*◌, ◌<◌, ◌≤◌, true, length, take, drop, MatchResult};
 ghost use Rattle.device.specs.Effects.{Reading, Declined, slot_size};
-ghost use Rattle.medium.specs.Rows.{slots_in};
-ghost use Rattle.medium.specs.State.{fresh, placed};
-ghost use Rattle.medium.specs.Appointed.{due, later, appointed, Counting, Restarted};
+ghost use Rattle.medium.specs.Rows.{slots_in, state_by, fresh, placed};
+ghost use Rattle.medium.specs.Appointed.{due, later, appointed, answer_of, Counting, Restarted};
 
-use device::{DeviceFault, SLOT_SIZE};
+use device::{DeviceFault, SLOT_SIZE, blank_slot};
 use std::marker::Model;
 
 /// An appointed power cut: `after` more writes are done, and the one that follows is cut, with `standing` of its bytes in place.
@@ -15,13 +14,6 @@ use std::marker::Model;
 pub struct Cut {
     pub after: usize,
     pub standing: usize,
-}
-
-/// What a write meets that is not declined: how many of its bytes are to stand, and what it answers once these are in place.
-#[derive(Clone, Copy, PartialEq, Eq, Debug)]
-pub struct Stroke {
-    pub standing: usize,
-    pub answer: Result<(), DeviceFault>,
 }
 
 /// A lent row of bytes, its power, and the cut that is appointed.
@@ -33,9 +25,9 @@ pub struct Bottom<'a> {
 }
 
 impl<'a> Model for Bottom<'a> {
-    ghost use Rattle.medium.specs.State.{State};
+    ghost use Rattle.medium.specs.Rows.{Row};
 
-    ghost Value = { State };
+    ghost Value = { Row };
 
     ghost view = { λ a. record { row = a.row.now; power = a.power; cut = a.cut } };
 }
@@ -53,14 +45,14 @@ impl<'a> Bottom<'a> {
     }
 
     /// Appoints a cut, in the place of an earlier appointment.
-    pub fn appoint(&mut self, after: usize, standing: usize)
-        ensures { self.new ≡ appointed after standing self.old }
+    pub fn appoint(&mut self, cut: Cut)
+        ensures { self.new ≡ appointed cut self.old }
     {
-        self.cut = Some(Cut { after, standing });
+        self.cut = Some(cut);
     }
 
-    /// The bytes of the row.
-    pub fn len(&self) -> usize
+    /// How many bytes the row has.
+    pub fn size(&self) -> usize
         ensures { result ≡ length self.now.row }
     {
         self.row.len()
@@ -77,7 +69,6 @@ impl<'a> Bottom<'a> {
     }
 
     /// Puts bytes in place from a slot on.
-    #[tactic(auto, using(crate::proofs::Rows::put_whole))]
     pub fn put(&mut self, index: usize, bytes: &[u8])
         requires { index * slot_size + length bytes.now ≤ length self.old.row }
         ensures { self.new ≡ placed index bytes.now self.old }
@@ -90,7 +81,7 @@ impl<'a> Bottom<'a> {
     // Declines a call at a slot of `many`: the index first, then the power.
     #[tactic(auto, using(crate::proofs::Rows::many))]
     fn admit(&self, many: usize, index: usize) -> Result<(), DeviceFault>
-        ensures { MatchResult result (λ _. (index < many) × (self.now.power ≡ true)) (λ e. Declined (slots_in slot_size many self.now.row) self.now.power index e) }
+        ensures { MatchResult result (λ _. (index < many) × (self.now.power ≡ true)) (λ e. Declined (state_by (slots_in slot_size many) self.now) index e) }
     {
         if index >= many {
             return Err(DeviceFault::NoSuchSlot);
@@ -103,33 +94,31 @@ impl<'a> Bottom<'a> {
 
     /// Reads a slot of `many`.
     #[tactic(auto, using(crate::proofs::Rows::slots))]
-    pub fn read(&self, many: usize, index: usize, out: &mut [u8; 64]) -> Result<(), DeviceFault>
+    pub fn read(
+        &self,
+        many: usize,
+        index: usize,
+        out: &mut [u8; SLOT_SIZE],
+    ) -> Result<(), DeviceFault>
         requires { many * slot_size ≤ length self.now.row }
-        ensures { Reading (slots_in slot_size many self.now.row) self.now.power index result out.new }
+        ensures { Reading (state_by (slots_in slot_size many) self.now) index result out.new }
     {
-        *out = [0; 64];
+        *out = blank_slot();
         self.admit(many, index)?;
         self.get(index, out);
         Ok(())
     }
 
-    /// Counts a write to a slot of `many` against the appointment, unless it is declined: one that is to be cut takes the power.
+    /// Begins a write to a slot of `many`, unless it is declined: counts it against the appointment. None where it is whole, else how many
+    /// of its bytes are to stand; a write that is cut takes the power.
     #[tactic(auto, using(crate::proofs::Rows::many))]
-    pub fn strike(&mut self, many: usize, index: usize) -> Result<Stroke, DeviceFault>
+    pub fn begin_write(&mut self, many: usize, index: usize) -> Result<Option<usize>, DeviceFault>
         ensures { Counting many self.old index result self.new }
     {
         self.admit(many, index)?;
-        let Some(standing) = strike(&mut self.cut) else {
-            return Ok(Stroke {
-                standing: SLOT_SIZE,
-                answer: Ok(()),
-            });
-        };
-        self.power = false;
-        Ok(Stroke {
-            standing,
-            answer: Err(DeviceFault::NoPower),
-        })
+        let cut = strike(&mut self.cut);
+        self.power = cut.is_none();
+        Ok(cut)
     }
 
     /// Switches the power on.
@@ -156,4 +145,19 @@ pub fn strike(cut: &mut Option<Cut>) -> Option<usize>
         standing,
     });
     None
+}
+
+// The devices begin, put and answer in their own `write`, and no function here does all three: one that is handed what to put would be
+// no plainer, since a sector image puts its bytes by way of a buffer of its own. They hand new, appoint, read and restart on by a line
+// each: three types, since the type says which slots there are and what may tear. `many` comes with each call: it is the device's rule,
+// and a row would hold what it gives already.
+
+/// What a write answers that was begun and has its bytes in place.
+pub fn answer(cut: Option<usize>) -> Result<(), DeviceFault>
+    ensures { result ≡ answer_of cut }
+{
+    match cut {
+        None => Ok(()),
+        Some(_) => Err(DeviceFault::NoPower),
+    }
 }

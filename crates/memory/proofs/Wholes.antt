@@ -1,10 +1,8 @@
 -- A write as appointed is whole.
-use Rattle.std.proofs.Common.{◌≡◌, ℕ, zero, suc, ◌/◌, ◌⊎◌, length, take, Ok, refl, inl, inr, div-mul-le_self}
+use Rattle.std.proofs.Common.{◌≡◌, ℕ, zero, suc, ◌/◌, ◌⊎◌, Option, length, take, Ok, refl, inl, inr, div-mul-le_self}
 use Rattle.device.specs.Effects.{Slot, Writing, slot_size}
-use Rattle.medium.specs.Rows.{slots_of}
-use Rattle.medium.specs.declared.Stroke.{Stroke}
-use Rattle.medium.specs.State.{State, placed}
-use Rattle.medium.specs.Appointed.{Counting}
+use Rattle.medium.specs.Rows.{Row, slots_of, state_by, placed}
+use Rattle.medium.specs.Appointed.{answer_of, Counting, standing_in}
 use Rattle.medium.proofs.Meanings.{wholes}
 use Rattle.memory.specs.Whole.{wholly}
 
@@ -12,5 +10,5 @@ either : (m : ℕ) → (wholly m ≡ 0) ⊎ (wholly m ≡ slot_size)
 either zero = inl refl
 either (suc m) = inr refl
 
-pub writes : (d : State) (i : ℕ) (b : Slot) (n k : ℕ) (s : Stroke) (u d' : State) → Counting n d i (Ok s) u → d' ≡ placed i (take k b) u → n ≡ length (slots_of d.row) → k ≡ wholly s.standing → length b ≡ slot_size → Writing (slots_of d.row) d.power i b s.answer (slots_of d'.row) d'.power
-writes = wholes (λ l. l / slot_size) (λ l. div-mul-le_self l slot_size) wholly refl either
+pub writes : (d : Row) (i : ℕ) (b : Slot) (n k : ℕ) (o : Option ℕ) (u d' : Row) → Counting n d i (Ok o) u → d' ≡ placed i (take k b) u → n ≡ length (slots_of d.row) → k ≡ standing_in wholly o → length b ≡ slot_size → Writing (state_by slots_of d) i b (answer_of o) (state_by slots_of d')
+writes = wholes (λ l. l / slot_size) (λ l. div-mul-le_self l slot_size) wholly either

@@ -3,14 +3,13 @@
 
 ghost use Rattle.std.specs.Prelude.{◌≡◌};
 ghost use Rattle.device.specs.Effects.{Writing, Restarting};
-ghost use Rattle.medium.specs.State.{fresh};
+ghost use Rattle.medium.specs.Rows.{Row, slots_of, state_by, fresh};
 ghost use Rattle.medium.specs.Appointed.{appointed, Struck, Restarted};
-ghost use Rattle.medium.specs.Rows.{slots_of};
 ghost use Rattle.medium.proofs.Rows.{sized_row};
 ghost use Rattle.memory.specs.Whole.{wholly};
 
 use device::{DeviceFault, ReadSlots, SLOT_SIZE, WriteSlots};
-use medium::Bottom;
+use medium::{Bottom, Cut, answer};
 use std::marker::Model;
 
 /// Slot i is the bytes from 64 i on; bytes past the last whole slot are unused.
@@ -20,9 +19,7 @@ pub struct Memory<'a> {
 }
 
 impl<'a> Model for Memory<'a> {
-    ghost use Rattle.medium.specs.State.{State};
-
-    ghost Value = { State };
+    ghost Value = { Row };
 
     ghost view = { λ a. a.base };
 }
@@ -37,29 +34,27 @@ impl<'a> Memory<'a> {
         }
     }
 
-    /// Appoints a cut, in the place of an earlier appointment: `after` more writes are done, and the next one is cut, with its slot
-    /// old where `standing` is 0, else new.
-    pub fn appoint(&mut self, after: usize, standing: usize)
-        ensures { self.new ≡ appointed after standing self.old }
+    /// Appoints a cut, in the place of an earlier appointment. The write that is cut leaves its slot old where no byte is to stand, else
+    /// new.
+    pub fn appoint(&mut self, cut: Cut)
+        ensures { self.new ≡ appointed cut self.old }
     {
-        self.base.appoint(after, standing);
+        self.base.appoint(cut);
     }
 }
 
 impl<'a> ReadSlots for Memory<'a> {
-    ghost slots = { λ s. slots_of s.row };
-
-    ghost powered = { λ s. s.power };
+    ghost state = { state_by slots_of };
 
     ghost sized = { λ s k h. sized_row s.row k h };
 
     #[tactic(auto, using(medium::proofs::Rows::many))]
     fn count(&self) -> usize {
-        self.base.len() / SLOT_SIZE
+        self.base.size() / SLOT_SIZE
     }
 
     #[tactic(auto, using(medium::proofs::Rows::slots))]
-    fn read(&self, index: usize, out: &mut [u8; 64]) -> Result<(), DeviceFault> {
+    fn read(&self, index: usize, out: &mut [u8; SLOT_SIZE]) -> Result<(), DeviceFault> {
         self.base.read(self.count(), index, out)
     }
 }
@@ -73,18 +68,18 @@ fn kept(standing: usize) -> usize
 
 impl<'a> WriteSlots for Memory<'a> {
     #[tactic(auto, using(medium::proofs::Rows::many, crate::proofs::Wholes::writes))]
-    fn write(&mut self, index: usize, bytes: &[u8; 64]) -> Result<(), DeviceFault>
-        ensures meaning { Writing (slots_of self.old.row) self.old.power index bytes.now result (slots_of self.new.row) self.new.power }
+    fn write(&mut self, index: usize, bytes: &[u8; SLOT_SIZE]) -> Result<(), DeviceFault>
+        ensures meaning { Writing (state_by slots_of self.old) index bytes.now result (state_by slots_of self.new) }
         ensures exact { Struck wholly slots_of self.old index bytes.now result self.new }
     {
         let many = self.count();
-        let stroke = self.base.strike(many, index)?;
-        self.base.put(index, &bytes[..kept(stroke.standing)]);
-        stroke.answer
+        let cut = self.base.begin_write(many, index)?;
+        self.base.put(index, &bytes[..cut.map_or(SLOT_SIZE, kept)]);
+        answer(cut)
     }
 
     fn restart(&mut self) -> Result<(), DeviceFault>
-        ensures meaning { Restarting (slots_of self.old.row) result (slots_of self.new.row) self.new.power }
+        ensures meaning { Restarting (state_by slots_of self.old) result (state_by slots_of self.new) }
         ensures exact { Restarted self.old result self.new }
     {
         self.base.restart()

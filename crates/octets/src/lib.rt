@@ -23,6 +23,7 @@ pub trait Field<const N: usize>: Copy {
         ensures { value result ≡ number_of bytes.now };
 }
 
+// Three impls alike: `to_be_bytes` is each type's own, and the gate takes no impl that a macro of the repository writes.
 #[tactic(auto, using(crate::proofs::Fielded::bytes2, crate::proofs::Fielded::number2))]
 impl Field<2> for u16 {
     ghost value = { λ v. v };

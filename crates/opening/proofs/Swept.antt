@@ -1,7 +1,7 @@
 -- Sweeping, slot by slot.
 use Rattle.std.proofs.Common.{◌≡◌, ℕ, suc, ◌+◌, ◌-◌, ◌<◌, ◌≤◌, Bool, true, false, cond, ◌||◌, ◌≢◌, List, [], ◌∷◌, ◌++◌, length, get_or, take, drop, Ok, Err, Result, sym, refl, ap, ◌∙◌, append_assoc, append-nil, arith, length-drop, take-append-drop}
 use Rattle.std.proofs.lemmas.List.{take_more, take_all, length-take-le, get_or-drop, get_or-set_other}
-use Rattle.device.specs.Effects.{Slot, Slots, blank}
+use Rattle.device.specs.Effects.{Slot, Slots, State, blank}
 use Rattle.fault.specs.declared.Halt.{Halt}
 use Rattle.fault.specs.declared.Step.TheVariants.{Sweep}
 use Rattle.octets.specs.Buffers.{zeros, is_blank}
@@ -9,17 +9,17 @@ use Rattle.marks.specs.Rows.{room_of, is_marked}
 use Rattle.chain.specs.Reading.{Link, slots_of}
 use Rattle.chain.specs.Listing.{marked_all}
 use Rattle.steps.specs.OneStep.{Write, write_of, Stepped}
-use Rattle.steps.specs.Writes.{stood, Ran, through, failed}
+use Rattle.steps.specs.Writes.{stood, Ran}
 use Rattle.rules.specs.Files.{holds, sweep_from, sweep_writes}
-use Rattle.steps.proofs.Plans.{done_slots, stood_append, length_stood, ran_none, ran_one, ran_then, ran_cut, ran_as}
+use Rattle.steps.proofs.Plans.{done_slots, stood_append, ran_none, ran_one, ran_then, ran_cut, ran_as}
 use Rattle.opening.specs.Sweeps.{sweep_at}
 use Rattle.opening.proofs.Marked.{marked_is}
 
 -- ---- one slot
-pub one_swept : (s t : Slots) (on on' kept : Bool) (i : ℕ) (b : Slot) (r : Result (Unit {0}) Halt) → kept ≡ false → is_blank b ≡ false → i < length s →
-    Stepped s on (write_of i blank Sweep) r t on' → Ran s (sweep_at kept i b) r t on'
-one_swept s t on on' kept i b r e f lt w =
-    ran_as (ap (λ t. cond t [] (write_of i blank Sweep ∷ [])) (sym f) ∙ ap (λ t. cond (t || is_blank b) [] (write_of i blank Sweep ∷ [])) (sym e)) (ran_one s t on on' (write_of i blank Sweep) r lt w)
+pub one_swept : (s t : State) (kept : Bool) (i : ℕ) (b : Slot) (r : Result (Unit {0}) Halt) → kept ≡ false → is_blank b ≡ false → i < length s.slots →
+    Stepped s (write_of i blank Sweep) r t → Ran s.slots (sweep_at kept i b) r t
+one_swept s t kept i b r e f lt w =
+    ran_as (ap (λ t. cond t [] (write_of i blank Sweep ∷ [])) (sym f) ∙ ap (λ t. cond (t || is_blank b) [] (write_of i blank Sweep ∷ [])) (sym e)) (ran_one s t (write_of i blank Sweep) r lt w)
 
 -- ---- a row of slots
 sweep_split : (i : ℕ) (cs bs : Slots) (ps : List ℕ) → sweep_from i (cs ++ bs) ps ≡ sweep_from i cs ps ++ sweep_from (i + length cs) bs ps
@@ -55,46 +55,29 @@ kept_after i (b ∷ bs) ps s k h =
 abbrev pub sofar : Slots → List Link → ℕ → List Write
 sofar s xs i = sweep_from 1 (take (i - 1) (drop 1 s)) (slots_of xs)
 
-pub sofar_none : (s : Slots) (xs : List Link) (on : Bool) → on ≡ true → Ran s (sofar s xs 1) (Ok tt) s on
-sofar_none s xs on o = ran_none s s on refl o
+pub sofar_none : (s : State) (xs : List Link) → s.power ≡ true → Ran s.slots (sofar s.slots xs 1) (Ok tt) s
+sofar_none s xs o = ran_none s.slots s refl o
 
 sofar_more : (s : Slots) (xs : List Link) (i : ℕ) → 1 ≤ i → i < length s → sofar s xs (i + 1) ≡ sofar s xs i ++ sweep_at (holds (slots_of xs) i) i (get_or s i [])
-sofar_more s xs i pos lt =
-    let e : i + 1 - 1 ≡ (i - 1) + 1 = omega arith in
-    let f : 1 + (i - 1) ≡ i = omega arith in
-    let l : i - 1 < length (drop 1 s) = omega (arith, length-drop 1 s) in
-    ap (λ n. sweep_from 1 (take n (drop 1 s)) (slots_of xs)) e
-    ∙ sweep_more (drop 1 s) (slots_of xs) (i - 1) l
-    ∙ ap (λ b. sofar s xs i ++ sweep_at (holds (slots_of xs) (1 + (i - 1))) (1 + (i - 1)) b) (get_or-drop 1 s (i - 1) [])
-    ∙ ap (λ n. sofar s xs i ++ sweep_at (holds (slots_of xs) n) n (get_or s n [])) f
-
--- the power is on after writes that are all done, and there are as many slots
-pub ran_on : {s t : Slots} {on : Bool} {ws : List Write} → Ran s ws (Ok tt) t on → on ≡ true
-ran_on (through e a o) = o
-ran_on (failed m h e c o) = absurd (cc)
-
-pub ran_long : {s t : Slots} {on : Bool} {ws : List Write} → Ran s ws (Ok tt) t on → length t ≡ length s
-ran_long {s = s} {ws = ws} a = ap length (done_slots a) ∙ length_stood s ws
+sofar_more s xs i pos lt = grind (arith, sweep_more, get_or-drop)
 
 -- one slot more: its bytes are still those of the start
-pub swept_more : (s t v : Slots) (on on' : Bool) (row : List ℕ) (xs : List Link) (n i : ℕ) (r : Result (Unit {0}) Halt) → length s ≡ n → 1 ≤ i → i < n →
+pub swept_more : (s : Slots) (t v : State) (row : List ℕ) (xs : List Link) (n i : ℕ) (r : Result (Unit {0}) Halt) → length s ≡ n → 1 ≤ i → i < n →
     row ≡ marked_all (zeros (length row)) xs → room_of n ≤ length row →
-    Ran s (sofar s xs i) (Ok tt) t on → Ran t (sweep_at (is_marked row i) i (get_or t i [])) r v on' → Ran s (sofar s xs (i + 1)) r v on'
-swept_more s t v on on' row xs n i r many pos lt e long a b =
+    Ran s (sofar s xs i) (Ok tt) t → Ran t.slots (sweep_at (is_marked row i) i (get_or t.slots i [])) r v → Ran s (sofar s xs (i + 1)) r v
+swept_more s t v row xs n i r many pos lt e long a b =
     let le : i - 1 ≤ length (drop 1 s) = omega (arith, length-drop 1 s) in
     let few : 1 + length (take (i - 1) (drop 1 s)) ≤ i = omega (arith, length-take-le (i - 1) (drop 1 s) le) in
     let within : i < length s = omega arith in
-    let same : get_or t i [] ≡ get_or s i [] = ap (λ x. get_or x i []) (done_slots a) ∙ kept_after 1 (take (i - 1) (drop 1 s)) (slots_of xs) s i few in
-    ran_as (ap (λ m. sofar s xs i ++ sweep_at m i (get_or t i [])) (marked_is n i lt row xs e long)
+    let same : get_or t.slots i [] ≡ get_or s i [] = ap (λ x. get_or x i []) (done_slots a) ∙ kept_after 1 (take (i - 1) (drop 1 s)) (slots_of xs) s i few in
+    ran_as (ap (λ m. sofar s xs i ++ sweep_at m i (get_or t.slots i [])) (marked_is n i lt row xs e long)
     ∙ ap (λ x. sofar s xs i ++ sweep_at (holds (slots_of xs) i) i x) same
     ∙ sym (sofar_more s xs i pos within))
     (ran_then a b)
 
-pub swept_cut : (s v : Slots) (on' : Bool) (xs : List Link) (i : ℕ) (h : Halt) → Ran s (sofar s xs i) (Err h) v on' → Ran s (sweep_writes s xs) (Err h) v on'
-swept_cut s v on' xs i h a =
+pub swept_cut : (s : Slots) (v : State) (xs : List Link) (i : ℕ) (h : Halt) → Ran s (sofar s xs i) (Err h) v → Ran s (sweep_writes s xs) (Err h) v
+swept_cut s v xs i h a =
     ran_as (sym (sweep_split 1 (take (i - 1) (drop 1 s)) (drop (i - 1) (drop 1 s)) (slots_of xs)) ∙ ap (λ x. sweep_from 1 x (slots_of xs)) (take-append-drop (i - 1) (drop 1 s))) (ran_cut _ a)
 
-pub swept_all : (s t : Slots) (on : Bool) (xs : List Link) (n i : ℕ) → length s ≡ n → n ≤ i → Ran s (sofar s xs i) (Ok tt) t on → Ran s (sweep_writes s xs) (Ok tt) t on
-swept_all s t on xs n i many le a =
-    let l : length (drop 1 s) ≤ i - 1 = omega (arith, length-drop 1 s) in
-    ran_as (ap (λ x. sweep_from 1 x (slots_of xs)) (take_all (i - 1) (drop 1 s) l)) a
+pub swept_all : (s : Slots) (t : State) (xs : List Link) (n i : ℕ) → length s ≡ n → n ≤ i → Ran s (sofar s xs i) (Ok tt) t → Ran s (sweep_writes s xs) (Ok tt) t
+swept_all s t xs n i many le a = grind (arith, ran_as, take_all)

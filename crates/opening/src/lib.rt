@@ -4,8 +4,9 @@
 //! one. Go through `Cold::make` and `Cold::reopen`.
 #![tactic(auto)]
 
-ghost use Rattle.std.specs.Prelude.{◌≡◌, ℕ, ◌+◌, ◌<◌, ◌≤◌, Bool, true, List, [], length, replicate, slice_index_or};
+ghost use Rattle.std.specs.Prelude.{◌≡◌, ℕ, ◌+◌, ◌<◌, ◌≤◌, Bool, true, List, [], length, slice_index_or};
 ghost use Rattle.octets.specs.Buffers.{zeros};
+ghost use Rattle.device.specs.Effects.{blank};
 ghost use Rattle.marks.specs.Rows.{room_of, is_marked};
 ghost use Rattle.chain.specs.Reading.{Link};
 ghost use Rattle.chain.specs.Listing.{marked_all};
@@ -14,47 +15,48 @@ ghost use Rattle.steps.specs.Writes.{Ran};
 ghost use Rattle.rules.specs.Files.{blank_writes, tree_writes, sweep_writes};
 ghost use Rattle.rules.specs.Kits.{Kit, numbers_in};
 ghost use Rattle.rules.specs.Calls.{Making, Reopening};
-ghost use Rattle.opening.specs.Sweeps.{sweep_at, Admitted};
+ghost use Rattle.opening.specs.Sweeps.{Powered, sweep_at};
 
 use chain::read_marking;
-use device::{ReadSlots, WriteSlots};
+use device::{SLOT_SIZE, WriteSlots};
 use fault::{Halt, Step};
+use generator::Value;
 use layout::{Head, NodeFields, Numbers, encode_head, encode_node};
-use marks::{is_marked, room};
+use marks::is_marked;
 use octets::{Wiped, clear, is_blank};
-use refusal::Refusal;
-use rules::slot_count;
+use rules::{admit, slot_count};
+use sealer::NAME;
 use steps::{read_at, restart, write_at};
 use tree::LEVELS;
 
 // Zeros to every slot. Here and in `sweep` the loop is over indices, since the index is what a write is given.
-// `count` stays beside `d`: in a struct with it each clause would name the device through the struct, and the struct would be
+// `count` stays beside `device`: in a struct with it each clause would name the device through the struct, and the struct would be
 // made once, for three private functions.
 #[tactic(auto, using(steps::proofs::Plans::ran_none))]
-fn blank_all<D: WriteSlots>(d: &mut D, count: u16) -> Result<(), Halt>
-    requires { (length (D.slots d.old) ≡ count) × (D.powered d.old ≡ true) }
-    ensures { Ran (D.slots d.old) (blank_writes 0 count) result (D.slots d.new) (D.powered d.new) }
+fn blank_all<D: WriteSlots>(device: &mut D, count: u16) -> Result<(), Halt>
+    requires { Powered (D.state device.old) count }
+    ensures { Ran (D.state device.old).slots (blank_writes 0 count) result (D.state device.new) }
 {
     for i in 0..count {
-        write_at(d, i, &[0; 64], Step::Make)?;
+        write_at(device, i, &[0; SLOT_SIZE], Step::Make)?;
     }
     Ok(())
 }
 
 // Lays a fresh tree out: zeros to every slot, the root's record, then the head.
 fn lay_tree<D: WriteSlots>(
-    d: &mut D,
+    device: &mut D,
     count: u16,
-    root: &[u8; 32],
+    root: &Value,
     head: &Head,
-    slot: &mut [u8; 64],
+    slot: &mut [u8; SLOT_SIZE],
 ) -> Result<(), Halt>
-    requires { (length (D.slots d.old) ≡ count) × ((2 ≤ count) × (D.powered d.old ≡ true)) }
-    ensures did { Ran (D.slots d.old) (tree_writes tree_levels (D.slots d.old) root.now head.now) result (D.slots d.new) (D.powered d.new) }
-    ensures clean { slot.new ≡ replicate 64 0 }
+    requires { Powered (D.state device.old) count × (2 ≤ count) }
+    ensures did { Ran (D.state device.old).slots (tree_writes tree_levels (D.state device.old).slots root.now head.now) result (D.state device.new) }
+    ensures clean { slot.new ≡ blank }
 {
     let guard = Wiped { pad: slot };
-    blank_all(d, count)?;
+    blank_all(device, count)?;
     encode_node(
         &NodeFields {
             depth: 0,
@@ -64,111 +66,101 @@ fn lay_tree<D: WriteSlots>(
         root,
         guard.pad,
     );
-    write_at(d, 1, guard.pad, Step::Make)?;
+    write_at(device, 1, guard.pad, Step::Make)?;
     encode_head(LEVELS, head, guard.pad);
-    write_at(d, 0, guard.pad, Step::Make)
+    write_at(device, 0, guard.pad, Step::Make)
 }
 
 /// Makes a tree of a root value under a key name. For the server alone: it works on a bare device.
 pub fn make_on<D: WriteSlots>(
-    d: &mut D,
-    root: &[u8; 32],
-    name: &[u8; 16],
+    device: &mut D,
+    root: &Value,
+    name: &[u8; NAME],
     numbers: Numbers,
-    slot: &mut [u8; 64],
+    slot: &mut [u8; SLOT_SIZE],
 ) -> Result<(), Halt>
-    ensures did { (k : Kit) → numbers_in k ≡ numbers → (headed : Bool) × Making k tree_levels (D.slots d.old) (D.powered d.old) root.now name.now result (D.slots d.new) (D.powered d.new) headed }
-    ensures clean { slot.new ≡ replicate 64 0 }
+    ensures did { (k : Kit) → numbers_in k ≡ numbers → (headed : Bool) × Making k tree_levels (D.state device.old) root.now name.now result (D.state device.new) headed }
+    ensures clean { slot.new ≡ blank }
 {
     let guard = Wiped { pad: slot };
-    let count = slot_count(d)?;
-    restart(d)?;
+    let count = slot_count(device)?;
+    restart(device)?;
     let head = Head {
         first: 1,
         issued: 0,
         name: *name,
-        generator: numbers.generator,
-        sealer: numbers.sealer,
+        numbers,
     };
-    lay_tree(d, count, root, &head, guard.pad)
+    lay_tree(device, count, root, &head, guard.pad)
 }
 
 // Zeros to a slot that is not marked and not zero.
+// The early answers stay: they say that there is nothing to write, and hand no Result on.
 fn sweep_slot<D: WriteSlots>(
-    d: &mut D,
+    device: &mut D,
     index: u16,
     marks: &[u8],
-    slot: &mut [u8; 64],
+    slot: &mut [u8; SLOT_SIZE],
 ) -> Result<(), Halt>
-    requires { (index < length (D.slots d.old)) × (D.powered d.old ≡ true) }
-    ensures { Ran (D.slots d.old) (sweep_at (is_marked marks.now index) index (slice_index_or (D.slots d.old) index [])) result (D.slots d.new) (D.powered d.new) }
+    requires { (index < length (D.state device.old).slots) × ((D.state device.old).power ≡ true) }
+    ensures { Ran (D.state device.old).slots (sweep_at (is_marked marks.now index) index (slice_index_or (D.state device.old).slots index [])) result (D.state device.new) }
 {
     if is_marked(marks, index as usize) {
         return Ok(());
     }
-    read_at(d, index, slot)?;
+    read_at(device, index, slot)?;
     if is_blank(slot) {
         return Ok(());
     }
-    write_at(d, index, &[0; 64], Step::Sweep)
+    write_at(device, index, &[0; SLOT_SIZE], Step::Sweep)
 }
 
 // Zeros to every slot that is neither the head's nor marked and that is not zero.
 #[tactic(auto, using(crate::proofs::Swept::sofar_none))]
 fn sweep<D: WriteSlots>(
-    d: &mut D,
+    device: &mut D,
     count: u16,
     marks: &[u8],
-    slot: &mut [u8; 64],
+    slot: &mut [u8; SLOT_SIZE],
 ) -> Result<(), Halt>
-    requires { (length (D.slots d.old) ≡ count) × (D.powered d.old ≡ true) }
-    ensures { (xs : List Link) → marks.now ≡ marked_all (zeros (length marks.now)) xs → room_of count ≤ length marks.now → Ran (D.slots d.old) (sweep_writes (D.slots d.old) xs) result (D.slots d.new) (D.powered d.new) }
+    requires { Powered (D.state device.old) count }
+    ensures { (xs : List Link) → marks.now ≡ marked_all (zeros (length marks.now)) xs → room_of count ≤ length marks.now → Ran (D.state device.old).slots (sweep_writes (D.state device.old).slots xs) result (D.state device.new) }
 {
     for i in 1..count {
-        sweep_slot(d, i, marks, slot)?;
+        sweep_slot(device, i, marks, slot)?;
     }
     Ok(())
 }
 
-// The number of slots, where so many bytes of marks serve for it and a tree fits.
-fn admit<D: ReadSlots>(d: &D, marks: usize) -> Result<u16, Halt>
-    ensures { Admitted tree_levels (D.slots d.now) marks result }
-{
-    if marks < room(d.count()) {
-        return Err(Halt::plain(Refusal::ShortBuffer));
-    }
-    slot_count(d)
-}
-
 // Restarts the device, reads the file and sweeps the slots beside its chain.
 fn restart_and_sweep<D: WriteSlots>(
-    d: &mut D,
+    device: &mut D,
     numbers: Numbers,
     marks: &mut [u8],
-    slot: &mut [u8; 64],
+    slot: &mut [u8; SLOT_SIZE],
 ) -> Result<(), Halt>
-    ensures { (k : Kit) → numbers_in k ≡ numbers → Reopening k tree_levels (D.slots d.old) (D.powered d.old) (length marks.old) result (D.slots d.new) (D.powered d.new) }
+    ensures { (k : Kit) → numbers_in k ≡ numbers → Reopening k tree_levels (D.state device.old) (length marks.old) result (D.state device.new) }
 {
-    let count = admit(d, marks.len())?;
-    restart(d)?;
-    read_marking(d, numbers, None, marks, slot)?;
-    sweep(d, count, marks, slot)
+    let count = admit(device, 0, 0, marks.len())?;
+    restart(device)?;
+    read_marking(device, numbers, None, marks, slot)?;
+    sweep(device, count, marks, slot)
 }
 
 /// Reopens the tree on a device: restarts it, reads its file, and clears the free slots that hold anything but zeros.
 /// The marks and the lent slot hold zeros afterwards. For the server alone: it works on a bare device.
 pub fn reopen_on<D: WriteSlots>(
-    d: &mut D,
+    device: &mut D,
     numbers: Numbers,
     marks: &mut [u8],
-    slot: &mut [u8; 64],
+    slot: &mut [u8; SLOT_SIZE],
 ) -> Result<(), Halt>
-    ensures did { (k : Kit) → numbers_in k ≡ numbers → Reopening k tree_levels (D.slots d.old) (D.powered d.old) (length marks.old) result (D.slots d.new) (D.powered d.new) }
+    ensures did { (k : Kit) → numbers_in k ≡ numbers → Reopening k tree_levels (D.state device.old) (length marks.old) result (D.state device.new) }
     ensures marks { marks.new ≡ zeros (length marks.old) }
-    ensures clean { slot.new ≡ replicate 64 0 }
+    ensures clean { slot.new ≡ blank }
 {
     let guard = Wiped { pad: slot };
-    let done = restart_and_sweep(d, numbers, marks, guard.pad);
+    let done = restart_and_sweep(device, numbers, marks, guard.pad);
     clear(marks);
     done
 }

@@ -8,7 +8,7 @@ use image::ByteImage;
 use journal::Journal;
 use memory::Memory;
 use octets::same_bytes;
-use samples::{Bytes, KEY_NAME, ROOT, Show, record_of, session};
+use samples::{Bytes, KEY_NAME, ROOT, Show, session_record};
 use scratch::Scratch;
 use server::{Cold, Running};
 use serving::{Held, device_of, opened, split};
@@ -56,7 +56,7 @@ impl<'a> Watch<'a> {
             start: Instant::now(rt)?,
             issuing: Duration::ZERO,
             redeeming: Duration::ZERO,
-            record: record_of(&session(&[b'n'; 32], 0x5a)),
+            record: session_record(&[b'n'; 32], 0x5a),
             ticket: Bytes::none(),
             state: Bytes::none(),
             marks: [0; SLOTS],
@@ -88,6 +88,7 @@ impl<'a> Watch<'a> {
     }
 }
 
+// Issued and redeemed are timed each by its own lines, with no closure for the call: it would borrow the watch that times it.
 fn issued<D: WriteSlots>(watch: &mut Watch, server: Up<D>) -> Here<D> {
     let from = watch.clock();
     let answer = server.issue(
@@ -99,8 +100,10 @@ fn issued<D: WriteSlots>(watch: &mut Watch, server: Up<D>) -> Here<D> {
     let span = watch.clock().saturating_sub(from);
     watch.issuing = watch.issuing.saturating_add(span);
     let (server, numbers) = split(answer);
-    watch.show.expect(numbers.is_ok(), "a ticket is not issued");
-    watch.ticket.length = numbers.map_or(0, |numbers| numbers.0);
+    match numbers {
+        Ok((length, _)) => watch.ticket.length = length,
+        Err(_) => watch.show.expect(false, "a ticket is not issued"),
+    }
     server
 }
 
@@ -188,8 +191,8 @@ fn main(rt: HostRuntime) -> anyhow::Result<()> {
     }
     let mut watch = Watch::new(&rt)?;
     let mut row = [0; IMAGE];
-    let _memory = timed(&mut watch, "memory", Memory::new(&mut row));
+    drop(timed(&mut watch, "memory", Memory::new(&mut row)));
     let journal = Journal::new(ByteImage::new(&mut row));
-    let _image = timed(&mut watch, "journal", journal).into_below();
+    drop(timed(&mut watch, "journal", journal));
     watch.show.end()
 }

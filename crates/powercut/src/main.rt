@@ -7,16 +7,14 @@ use beds::Medium;
 use device::{ReadSlots, SLOT_SIZE, TearSlots, WriteSlots};
 use journal::Journal;
 use medium::Cut;
-use samples::{Show, all_are};
+use samples::{JOURNAL_ROW, Show, all_are, journal_row};
 use words::{NEW, Said, Slot};
-
-// Ten slots and ten bytes more: for the sector image one whole sector and a broken one.
-const ROW: usize = 650;
 
 // The journal's slot that is written.
 const SLOT: usize = 3;
 
-// Some cuts, each with the raw write that it meets.
+// Some cuts, each with the raw write that it meets: how many writes are done before, and how much of the one that is cut stands. A cut is
+// made of the two at its turn, since with cuts in it this table takes sixty lines.
 const CUTS: [(&str, usize, usize); 8] = [
     ("the copy", 0, 17),
     ("the mark with the target", 1, 2),
@@ -28,25 +26,15 @@ const CUTS: [(&str, usize, usize); 8] = [
     ("none of them", 9, 64),
 ];
 
-// Every raw slot from 2 on is filled with its own number; mark and copy are blank.
-fn laid_out() -> [u8; ROW] {
-    let mut row = [0; ROW];
-    for (raw, slot) in (2..11u8).zip(row[2 * SLOT_SIZE..].chunks_mut(SLOT_SIZE)) {
-        slot.fill(raw);
-    }
-    row
-}
-
 // What a journal answers to a read of the slot, and what the buffer of that read holds.
 fn look<D: TearSlots + Drop>(journal: Journal<D>) -> (Said, Slot) {
     let mut slot = [1; SLOT_SIZE];
     let read = Said(journal.read(SLOT, &mut slot));
-    let _image = journal.into_below();
     (read, Slot(slot))
 }
 
 // The first three bytes of the mark, and the first and the last of the copy and of the slot's own place.
-fn show_below(show: &mut Show, row: &[u8; ROW]) {
+fn show_below(show: &mut Show, row: &[u8; JOURNAL_ROW]) {
     println!(show;
         "  below, the mark begins {:02x} {:02x} {:02x}",
         row[0], row[1], row[2]
@@ -61,7 +49,7 @@ fn show_below(show: &mut Show, row: &[u8; ROW]) {
     );
 }
 
-fn show_write(show: &mut Show, medium: Medium, row: &mut [u8; ROW], cut: Cut) {
+fn show_write(show: &mut Show, medium: Medium, row: &mut [u8; JOURNAL_ROW], cut: Cut) {
     let mut journal = Journal::new(medium.lay(row, Some(cut)));
     let answer = Said(journal.write(SLOT, &[NEW; SLOT_SIZE]));
     println!(show; "  the write answers: {answer}");
@@ -69,7 +57,7 @@ fn show_write(show: &mut Show, medium: Medium, row: &mut [u8; ROW], cut: Cut) {
     println!(show; "  a read at once answers: {read}, its buffer holds {slot}");
 }
 
-fn show_restart(show: &mut Show, medium: Medium, row: &mut [u8; ROW]) {
+fn show_restart(show: &mut Show, medium: Medium, row: &mut [u8; JOURNAL_ROW]) {
     let mut journal = Journal::new(medium.lay(row, None));
     let answer = Said(journal.restart());
     println!(show; "  the restart answers: {answer}");
@@ -81,7 +69,7 @@ fn run(show: &mut Show, name: &str, medium: Medium) {
     show.println(name);
     for (step, after, standing) in CUTS {
         println!(show; "cut at {step}, {standing} bytes standing");
-        let mut row = laid_out();
+        let mut row = journal_row();
         show_write(show, medium, &mut row, Cut { after, standing });
         show_below(show, &row);
         show_restart(show, medium, &mut row);
@@ -102,8 +90,18 @@ fn ask<D: TearSlots + Drop>(show: &mut Show, label: &str, mut device: D, index: 
 
 // Devices asked for a slot that they do not have: what, the image, the bytes that it takes of the row, and the index.
 const OUTSIDE: [(&str, Medium, usize, usize); 4] = [
-    ("byte image, index past the end", Medium::Bytes, ROW, 10),
-    ("sector image, index past the end", Medium::Sectors, ROW, 8),
+    (
+        "byte image, index past the end",
+        Medium::Bytes,
+        JOURNAL_ROW,
+        10,
+    ),
+    (
+        "sector image, index past the end",
+        Medium::Sectors,
+        JOURNAL_ROW,
+        8,
+    ),
     ("byte image of 63 bytes", Medium::Bytes, 63, 0),
     ("sector image of 511 bytes", Medium::Sectors, 511, 0),
 ];
@@ -116,16 +114,16 @@ const DARK: [(&str, Medium); 2] = [
 
 fn bad_input(show: &mut Show) {
     show.println("bad input");
-    let mut row = [7; ROW];
+    let mut row = [7; JOURNAL_ROW];
     for (label, medium, bytes, index) in OUTSIDE {
-        let image = medium.lay(&mut row[..bytes.min(ROW)], None);
+        let image = medium.lay(&mut row[..bytes.min(JOURNAL_ROW)], None);
         ask(show, label, image, index);
     }
     show_dark(show, &mut row);
     println!(show; "no byte has changed: {}", all_are(&row, 7));
 }
 
-fn show_dark(show: &mut Show, row: &mut [u8; ROW]) {
+fn show_dark(show: &mut Show, row: &mut [u8; JOURNAL_ROW]) {
     let cut = Cut {
         after: 0,
         standing: 0,
@@ -143,7 +141,6 @@ fn no_room(show: &mut Show) {
     let count = journal.count();
     let read = Said(journal.read(0, &mut [1; SLOT_SIZE]));
     let written = Said(journal.write(0, &[NEW; SLOT_SIZE]));
-    let _image = journal.into_below();
     println!(show; "journal over two slots: {count} slots, read 0: {read}, write 0: {written}");
 }
 

@@ -1,9 +1,12 @@
 -- Laying out a record, and the records that are written so far.
-use Rattle.std.proofs.Common.{◌≡◌, ℕ, zero, suc, ◌+◌, ◌-◌, ◌<◌, ◌≤◌, Bool, true, List, [], ◌∷◌, ◌++◌, length, get_or, drop, Some, None, Ok, Err, Result, sym, refl, ap, ◌∙◌, append_assoc, append-nil, arith}
-use Rattle.device.specs.Effects.{Slot, Slots}
+use Rattle.std.proofs.Common.{◌≡◌, ℕ, zero, suc, ◌+◌, ◌-◌, ◌<◌, ◌≤◌, true, List, [], ◌∷◌, ◌++◌, length, get_or, take, drop, min, ◌⊎◌, inl, inr, Some, None, Option, Ok, Err, Result, sym, refl, ap, ◌∙◌, append_assoc, append-nil, arith}
+use Rattle.std.proofs.Math.Seq.{get_or-append_seam}
+use Rattle.std.proofs.lemmas.Bool.{cases_lt}
+use Rattle.std.proofs.lemmas.List.{length_push, take-append-drop, length-take-le, length-append}
+use Rattle.device.specs.Effects.{Slot, Slots, State}
 use Rattle.fault.specs.declared.Halt.{Halt}
 use Rattle.fault.specs.declared.Step.TheVariants.{NewRecord}
-use Rattle.layout.specs.Records.{encode_node}
+use Rattle.layout.specs.Records.{encode_node, fields_of}
 use Rattle.tree.specs.declared.Node.{Node}
 use Rattle.tree.specs.Nodes.{root_node}
 use Rattle.marks.specs.Rows.{unmarked, first_of}
@@ -11,15 +14,67 @@ use Rattle.steps.specs.OneStep.{Write, write_of, Stepped}
 use Rattle.steps.specs.Writes.{Ran}
 use Rattle.rules.specs.Files.{entry, new_writes}
 use Rattle.steps.proofs.Plans.{ran_none, ran_next, ran_cut, ran_as}
-use Rattle.puncture.specs.Laying.{open_slots, last_links, links_for, Able, Laid, all, cut}
+use Rattle.puncture.specs.Laying.{open_slots, last_links, links_for, Able, Laid}
 use Rattle.puncture.proofs.Open.{First, first_is, none_left, left_over}
 
+-- the nodes ns and the values vs are still to be written, and those behind them are
+pub record Ahead (nodes : List Node) (row : List (List ℕ)) (ns : List Node) (vs : List (List ℕ)) : Type 0 where
+  pub behind : List Node
+  pub nodes_are : nodes ≡ ns ++ behind
+  pub others : List (List ℕ)
+  pub values_are : row ≡ vs ++ others
+  pub many : length vs ≡ length ns
+
+-- at the beginning all are
+pub all_ahead : {nodes ns : List Node} {row vs : List (List ℕ)} → ns ≡ nodes → vs ≡ take (length nodes) row → length nodes ≤ length row → Ahead nodes row ns vs
+all_ahead {nodes = nodes} {row = row} e f l = record {
+  behind = [];
+  nodes_are = sym (append-nil _ ∙ e);
+  others = drop (length nodes) row;
+  values_are = sym (take-append-drop (length nodes) row) ∙ ap (λ (xs : List (List ℕ)). xs ++ drop (length nodes) row) (sym f);
+  many = ap length f ∙ length-take-le (length nodes) row l ∙ sym (ap length e);
+}
+
+-- the last of them is drawn, a node with its value
+pub record Drawn (nodes : List Node) (row : List (List ℕ)) (ns ns' : List Node) (vs' : List (List ℕ)) (x : Node) (y : List ℕ) : Type 0 where
+  pub fewer : length ns ≡ suc (length ns')
+  pub within : length ns' < length nodes
+  pub node : get_or nodes (length ns') root_node ≡ x
+  pub value : get_or row (length ns') [] ≡ y
+  pub onward : Ahead nodes row ns' vs'
+
+pub drawn : {nodes : List Node} {row : List (List ℕ)} {ns ns' : List Node} {vs vs' : List (List ℕ)} {x : Node} {y : List ℕ} → Ahead nodes row ns vs →
+    (length ns - length vs ≡ 0 → ns ≡ ns' ++ x ∷ []) → (length vs - length ns ≡ 0 → vs ≡ vs' ++ y ∷ []) → Drawn nodes row ns ns' vs' x y
+drawn {nodes = nodes} {row = row} {ns = ns} {ns' = ns'} {vs = vs} {vs' = vs'} {x = x} {y = y} a f h =
+    let p : ns ≡ ns' ++ x ∷ [] = f (omega (arith, a.many)) in
+    let q : vs ≡ vs' ++ y ∷ [] = h (omega (arith, a.many)) in
+    let n : nodes ≡ ns' ++ x ∷ a.behind = a.nodes_are ∙ ap (λ (zs : List Node). zs ++ a.behind) p ∙ append_assoc ns' (x ∷ []) a.behind in
+    let v : row ≡ vs' ++ y ∷ a.others = a.values_are ∙ ap (λ (zs : List (List ℕ)). zs ++ a.others) q ∙ append_assoc vs' (y ∷ []) a.others in
+    let m : length vs' ≡ length ns' = omega (arith, a.many, ap length p, ap length q, length_push ns' x, length_push vs' y) in
+    record {
+      fewer = omega (arith, ap length p, length_push ns' x);
+      within = omega (arith, ap length n, length-append ns' (x ∷ a.behind));
+      node = ap (λ (zs : List Node). get_or zs (length ns') root_node) n ∙ get_or-append_seam ns' x a.behind root_node;
+      value = ap (λ (j : ℕ). get_or row j []) (sym m) ∙ ap (λ (zs : List (List ℕ)). get_or zs (length vs') []) v ∙ get_or-append_seam vs' y a.others [];
+      onward = record { behind = x ∷ a.behind; nodes_are = n; others = y ∷ a.others; values_are = v; many = m };
+    }
+
+pub none_ahead : {nodes : List Node} {row : List (List ℕ)} {ns : List Node} {vs : List (List ℕ)} → Ahead nodes row ns vs →
+    (0 < min (length ns) (length vs) → (length ns - length vs ≡ 0 → length ns ≡ 0) ⊎ (length vs - length ns ≡ 0 → length vs ≡ 0)) → length ns ≡ 0
+none_ahead {ns = ns} {vs = vs} a h = elim (cases_lt 0 (length ns)) [
+  | inr e ↦ omega (arith, e)
+  | inl l ↦ elim (h (omega (arith, l, a.many))) [
+    | inl p ↦ p (omega (arith, a.many))
+    | inr q ↦ omega (arith, a.many, q (omega (arith, a.many)))
+  ]
+]
+
 -- of m nodes the last `m - left` are written
-pub record Going (s : Slots) (nodes : List Node) (row : List (List ℕ)) (marks : List ℕ) (count last left from next : ℕ) (t : Slots) (on : Bool) : Type 0 where
+pub record Going (s : Slots) (nodes : List Node) (row : List (List ℕ)) (marks : List ℕ) (count last left from next : ℕ) (t : State) : Type 0 where
   pub within : left ≤ length nodes
   pub rest : unmarked marks from (count - from) ≡ drop (length nodes - left) (open_slots marks count)
   pub leads : next ≡ entry (last_links (open_slots marks count) nodes row (length nodes) (length nodes - left)) last
-  pub ran : Ran s (new_writes (last_links (open_slots marks count) nodes row (length nodes) (length nodes - left)) last) (Ok tt) t on
+  pub ran : Ran s (new_writes (last_links (open_slots marks count) nodes row (length nodes) (length nodes - left)) last) (Ok tt) t
 
 -- the writes of the last n nodes come first
 more_writes : (us : List ℕ) (nodes : List Node) (row : List (List ℕ)) (m last n k : ℕ) →
@@ -31,76 +86,70 @@ more_writes us nodes row m last n (suc k) =
     let e : n + suc k ≡ suc (n + k) = omega arith in
     let r = more_writes us nodes row m last n k in
     let links = last_links us nodes row m (n + k) in
-    let w : Write = write_of (get_or us (n + k) 0) (encode_node (record { depth = (get_or nodes (m - suc (n + k)) root_node).depth; first = (get_or nodes (m - suc (n + k)) root_node).first; next = entry links last }) (get_or row (m - suc (n + k)) [])) NewRecord in (
+    let w : Write = write_of (get_or us (n + k) 0) (encode_node (fields_of (get_or nodes (m - suc (n + k)) root_node) (entry links last)) (get_or row (m - suc (n + k)) [])) NewRecord in (
       r.0 ++ (w ∷ []),
       ap (λ (j : ℕ). new_writes (last_links us nodes row m j) last) e
           ∙ ap (λ (x : List Write). x ++ (w ∷ [])) r.1
           ∙ append_assoc (new_writes (last_links us nodes row m n) last) r.0 (w ∷ []),
     )
 
-pub begun : (s : Slots) (nodes : List Node) (row : List (List ℕ)) (marks : List ℕ) (count last : ℕ) (on : Bool) → on ≡ true →
-    Going s nodes row marks count last (length nodes) 1 last s on
-begun s nodes row marks count last on o =
-    let z : length nodes - length nodes ≡ 0 = omega arith in
-    record { within = omega arith; rest = rw z; leads = rw z; ran = rw z (ran_none s s on refl o) }
+pub begun : {s : State} {nodes : List Node} {row : List (List ℕ)} {marks : List ℕ} {count last left : ℕ} → left ≡ length nodes → s.power ≡ true →
+    Going s.slots nodes row marks count last left 1 last s
+begun {s = s} {nodes = nodes} {left = left} e o =
+    let z : length nodes - left ≡ 0 = omega (arith, e) in
+    record { within = omega (arith, e); rest = rw z; leads = rw z; ran = rw z (ran_none s.slots s refl o) }
 
-module _ {s : Slots} {nodes : List Node} {row : List (List ℕ)} {marks : List ℕ} {count last left from next : ℕ} {t : Slots} {on : Bool}
-    (g : Going s nodes row marks count last left from next t on) where
-  pub ended : left ≡ 0 → Laid s (links_for (open_slots marks count) nodes row) last (Ok next) t on
+module _ {s : Slots} {nodes : List Node} {row : List (List ℕ)} {marks : List ℕ} {count last left from next : ℕ} {t : State}
+    (g : Going s nodes row marks count last left from next t) where
+  pub ended : left ≡ 0 → Laid s (links_for (open_slots marks count) nodes row) last (Ok next) t
   ended z =
       let e : length nodes - left ≡ length nodes = omega arith in
-      all next refl (rw e at g.leads) (rw e at g.ran)
+      (rw e at g.leads, rw e at g.ran)
 
-  module _ (on₀ : Bool) (able : Able s on₀ count (length nodes) marks) (some : 0 < left) where
-    pub some_left : first_of (unmarked marks from (count - from)) ≡ None → ⊥
-    some_left e = none_left (unmarked marks from (count - from)) (open_slots marks count) (length nodes - left) e g.rest (omega (arith, able.room, g.within))
+module _ {s : State} {nodes : List Node} {row : List (List ℕ)} {marks : List ℕ} {count last from next : ℕ} {t : State} {ns ns' : List Node} {vs' : List (List ℕ)} {x : Node} {y : List ℕ}
+    (g : Going s.slots nodes row marks count last (length ns) from next t) (w : Drawn nodes row ns ns' vs' x y) (able : Able s count (length nodes) marks) where
+  pub never_full : {h : Halt} {o : Option ℕ} → o ≡ first_of (unmarked marks from (count - from)) → o ≡ None → Laid s.slots (links_for (open_slots marks count) nodes row) last (Err h) t
+  never_full e is = absurd (none_left (unmarked marks from (count - from)) (open_slots marks count) (length nodes - length ns) (sym e ∙ is) g.rest (omega (arith, able.room, g.within, w.fewer)))
 
-    module _ (f : ℕ) (is : first_of (unmarked marks from (count - from)) ≡ Some f) where
-      first_open : First marks from (count - from) f
-      first_open = first_is marks from (count - from) f is
+  module _ {o : Option ℕ} {f : ℕ} (e : o ≡ first_of (unmarked marks from (count - from))) (is : o ≡ Some f) where
+    first_open : First marks from (count - from) f
+    first_open = first_is marks from (count - from) f (sym e ∙ is)
 
-      here : (get_or (open_slots marks count) (length nodes - left) 0 ≡ f) × (drop (suc (length nodes - left)) (open_slots marks count) ≡ unmarked marks (f + 1) (from + (count - from) - (f + 1)))
-      here = left_over (open_slots marks count) _ (length nodes - left) f (sym g.rest ∙ first_open.rest)
+    here : (get_or (open_slots marks count) (length nodes - length ns) 0 ≡ f) × (drop (suc (length nodes - length ns)) (open_slots marks count) ≡ unmarked marks (f + 1) (from + (count - from) - (f + 1)))
+    here = left_over (open_slots marks count) _ (length nodes - length ns) f (sym g.rest ∙ first_open.rest)
 
-      pub slot_small : f < count
-      slot_small = omega (arith, first_open.low, first_open.high)
+    slot_small : f < count
+    slot_small = omega (arith, first_open.low, first_open.high)
 
-      abbrev record_here : Slot
-      record_here = encode_node (record { depth = (get_or nodes (left - 1) root_node).depth; first = (get_or nodes (left - 1) root_node).first; next = next }) (get_or row (left - 1) [])
+    abbrev record_here : Slot
+    record_here = encode_node (fields_of x next) y
 
-      one_more : new_writes (last_links (open_slots marks count) nodes row (length nodes) (length nodes - left)) last ++ (write_of f record_here NewRecord ∷ [])
-          ≡ new_writes (last_links (open_slots marks count) nodes row (length nodes) (length nodes - (left - 1))) last
-      one_more =
-          let a : length nodes - (left - 1) ≡ suc (length nodes - left) = omega (arith, g.within) in
-          let b : length nodes - suc (length nodes - left) ≡ left - 1 = omega (arith, g.within) in
-          let n = g.leads in
-          rw (a, b, here.0, ← n)
+    one_less : length nodes - length ns' ≡ suc (length nodes - length ns)
+    one_less = omega (arith, w.fewer, g.within)
 
-      went : (b : Slot) (r : Result (Unit {0}) Halt) (v : Slots) (on' : Bool) → b ≡ record_here → Stepped t on (write_of f b NewRecord) r v on' →
-          Ran s (new_writes (last_links (open_slots marks count) nodes row (length nodes) (length nodes - (left - 1))) last) r v on'
-      went b r v on' e w =
-          let lt : f < length s = omega (arith, slot_small, able.size) in
-          ran_as (ap (λ (x : Slot). new_writes (last_links (open_slots marks count) nodes row (length nodes) (length nodes - left)) last ++ (write_of f x NewRecord ∷ [])) e ∙ one_more)
-          (ran_next (write_of f b NewRecord) g.ran lt w)
+    went : {r : Result (Unit {0}) Halt} {v : State} → Stepped t (write_of f record_here NewRecord) r v →
+        Ran s.slots (new_writes (last_links (open_slots marks count) nodes row (length nodes) (length nodes - length ns')) last) r v
+    went d =
+        let lt : f < length s.slots = omega (arith, slot_small, able.size) in
+        let b : length nodes - suc (length nodes - length ns) ≡ length ns' = omega (arith, w.fewer, g.within) in
+        let n = g.leads in
+        let p = w.node in
+        let q = w.value in
+        ran_as (rw (one_less, b, p, q, here.0, ← n)) (ran_next (write_of f record_here NewRecord) g.ran lt d)
 
-      pub fails : (b : Slot) (h : Halt) (v : Slots) (on' : Bool) →
-          b ≡ encode_node (record { depth = (get_or nodes (left - 1) root_node).depth; first = (get_or nodes (left - 1) root_node).first; next = next }) (get_or row (left - 1) []) →
-          Stepped t on (write_of f b NewRecord) (Err h) v on' → Laid s (links_for (open_slots marks count) nodes row) last (Err h) v on'
-      fails b h v on' e w =
-          let n = length nodes - (left - 1) in
-          let q : n + (left - 1) ≡ length nodes = omega (arith, g.within) in
-          let m = more_writes (open_slots marks count) nodes row (length nodes) last n (left - 1) in
-          cut h refl (ran_as (sym m.1 ∙ ap (λ (j : ℕ). new_writes (last_links (open_slots marks count) nodes row (length nodes) j) last) q) (ran_cut m.0 (went b (Err h) v on' e w)))
+    pub fails : {h : Halt} {v : State} → Stepped t (write_of f record_here NewRecord) (Err h) v → Laid s.slots (links_for (open_slots marks count) nodes row) last (Err h) v
+    fails {h = h} d =
+        let n = length nodes - length ns' in
+        let q : n + length ns' ≡ length nodes = omega (arith, w.within) in
+        let m = more_writes (open_slots marks count) nodes row (length nodes) last n (length ns') in
+        ran_as (sym m.1 ∙ ap (λ (j : ℕ). new_writes (last_links (open_slots marks count) nodes row (length nodes) j) last) q) (ran_cut m.0 (went d))
 
-      pub again : (b : Slot) (v : Slots) (on' : Bool) →
-          b ≡ encode_node (record { depth = (get_or nodes (left - 1) root_node).depth; first = (get_or nodes (left - 1) root_node).first; next = next }) (get_or row (left - 1) []) →
-          Stepped t on (write_of f b NewRecord) (Ok tt) v on' → Going s nodes row marks count last (left - 1) (f + 1) f v on'
-      again b v on' e w =
-          let a : length nodes - (left - 1) ≡ suc (length nodes - left) = omega (arith, g.within) in
-          let c : from + (count - from) - (f + 1) ≡ count - (f + 1) = omega (arith, slot_small, first_open.low) in
-          record {
-            within = omega (arith, g.within);
-            rest = sym (rw (← c) here.1) ∙ ap (λ (j : ℕ). drop j (open_slots marks count)) (sym a);
-            leads = rw a (sym here.0);
-            ran = went b (Ok tt) v on' e w;
-          }
+    pub again : {v : State} → Stepped t (write_of f record_here NewRecord) (Ok tt) v → Going s.slots nodes row marks count last (length ns') (f + 1) f v
+    again d =
+        let c : from + (count - from) - (f + 1) ≡ count - (f + 1) = omega (arith, slot_small, first_open.low) in
+        record {
+          within = omega (arith, w.within);
+          rest = sym (rw (← c) here.1) ∙ ap (λ (j : ℕ). drop j (open_slots marks count)) (sym one_less);
+          leads = rw one_less (sym here.0);
+          ran = went d;
+        }

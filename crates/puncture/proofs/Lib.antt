@@ -1,5 +1,4 @@
 pub mod Values
 pub mod Open
-pub mod Files
 pub mod Laid
 pub mod Done

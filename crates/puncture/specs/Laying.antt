@@ -1,6 +1,6 @@
 -- The new records of a puncture: which slots they take, and what writing them answers.
-use Rattle.std.specs.Prelude.{◌≡◌, ℕ, zero, suc, ◌-◌, ◌≤◌, Bool, true, List, [], ◌∷◌, length, Ok, Err, Result, slice_index, slice_index_or}
-use Rattle.device.specs.Effects.{Slots}
+use Rattle.std.specs.Prelude.{◌≡◌, ℕ, zero, suc, ◌-◌, ◌≤◌, true, List, [], ◌∷◌, length, Ok, Err, Result, slice_index, slice_index_or}
+use Rattle.device.specs.Effects.{Slots, State}
 use Rattle.fault.specs.declared.Halt.{Halt}
 use Rattle.tree.specs.declared.Node.{Node}
 use Rattle.tree.specs.Nodes.{root_node}
@@ -28,12 +28,12 @@ abbrev pub links_for : List ℕ → List Node → List (List ℕ) → List Link
 links_for us nodes row = last_links us nodes row (length nodes) (length nodes)
 
 -- the power is on, the device has that many slots, and m of them are open
-pub record Able (s : Slots) (on : Bool) (count m : ℕ) (marks : List ℕ) : Type 0 where
-  pub power : on ≡ true
-  pub size : length s ≡ count
+pub record Able (s : State) (count m : ℕ) (marks : List ℕ) : Type 0 where
+  pub power : s.power ≡ true
+  pub size : length s.slots ≡ count
   pub room : m ≤ length (open_slots marks count)
 
 -- the links are written, the last leading on to the index `last`, and the answer is the index that leads to the first; or the power fails
-pub data Laid (s : Slots) (links : List Link) (last : ℕ) (r : Result ℕ Halt) (t : Slots) (on' : Bool) : Type 0 where
-  all : (i : ℕ) → r ≡ Ok i → i ≡ entry links last → Ran s (new_writes links last) (Ok tt) t on' → Laid s links last r t on'
-  cut : (h : Halt) → r ≡ Err h → Ran s (new_writes links last) (Err h) t on' → Laid s links last r t on'
+abbrev pub Laid : Slots → List Link → ℕ → Result ℕ Halt → State → Type 0
+Laid s links last (Ok i) t = (i ≡ entry links last) × Ran s (new_writes links last) (Ok tt) t
+Laid s links last (Err h) t = Ran s (new_writes links last) (Err h) t

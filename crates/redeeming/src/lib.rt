@@ -9,49 +9,31 @@
 ghost use Rattle.std.specs.Prelude.{◌≡◌, ◌<◌, ◌≤◌, Bool, true, cond, List, length, Some, None, Ok};
 ghost use Rattle.octets.specs.Buffers.{zeros};
 ghost use Rattle.session.specs.Limits.{most_length};
-ghost use Rattle.layout.specs.Records.{value_of};
+ghost use Rattle.sealer.specs.Limits.{overhead_limit};
 ghost use Rattle.tree.specs.Nodes.{tree_levels};
 ghost use Rattle.marks.specs.Rows.{room_of};
 ghost use Rattle.chain.specs.Reading.{Link};
 ghost use Rattle.scratch.specs.Clean.{Clean};
-ghost use Rattle.rules.specs.Kits.{Kit, kit_of, name_length, heading_length, overhead_most, value_length};
+ghost use Rattle.rules.specs.Kits.{Kit, kit_of};
 ghost use Rattle.rules.specs.Tickets.{name_in, number_in, heading_in, sealed_in};
 ghost use Rattle.rules.specs.Calls.{Sound, same_bytes, redeemable, Redeeming, kept};
-ghost use Rattle.redeeming.specs.Steps.{roomy, ticket_fits, asked_by, Entering, passing, Surveying, Met, Derived, Unsealing, Spotted};
+ghost use Rattle.redeeming.specs.Steps.{ticket_fits, asked_by, passing, Surveying, Met, Derived, Unsealing, Spotted};
 
 use chain::{Found, Survey, read_marking};
-use device::{ReadSlots, WriteSlots};
+use device::{ReadSlots, SLOT_SIZE, WriteSlots};
 use fault::Halt;
-use generator::{Generator, descend_keeping};
-use layout::{Head, Numbers, copy_value};
-use marks::room;
+use generator::{Generator, Value, descend_keeping};
+use layout::{Head, copy_value};
 use octets::{clear, get, same_bytes};
 use puncture::puncture;
 use refusal::Refusal;
-use rules::{HEADING, NAME, slot_count};
+use rules::{admit, numbers_of};
 use scratch::Scratch;
-use sealer::Sealer;
+use sealer::{HEADING, NAME, Sealer};
 use session::{RECORD_LEAST, RECORD_LIMIT, is_record};
 use std::marker::Model;
 use steps::read_at;
 use tree::LEVELS;
-
-// Whether buffers of so many bytes, for a state and for the marks, will do.
-fn is_roomy<D: ReadSlots>(d: &D, state: usize, marks: usize) -> bool
-    ensures { result ≡ roomy (D.slots d.now) state marks }
-{
-    RECORD_LIMIT <= state && room(d.count()) <= marks
-}
-
-// The slot count, once buffers and count will do.
-fn enter<D: ReadSlots>(d: &D, state: usize, marks: usize) -> Result<u16, Halt>
-    ensures { Entering tree_levels (D.ReadSlots.slots d.now) state marks result }
-{
-    if !is_roomy(d, state, marks) {
-        return Err(Halt::plain(Refusal::ShortBuffer));
-    }
-    slot_count(d)
-}
 
 // A ticket that is long enough for its heading, seen as its bytes.
 #[derive(Drop)]
@@ -61,7 +43,7 @@ struct Ticket<'a> {
 
 impl<'a> Model for Ticket<'a> {
     ghost use Rattle.std.specs.Prelude.{ℕ, ◌≤◌, List, length};
-    ghost use Rattle.rules.specs.Kits.{heading_length};
+    ghost use Rattle.sealer.specs.Limits.{heading_length};
 
     ghost Value = { List ℕ };
 
@@ -71,9 +53,11 @@ impl<'a> Model for Ticket<'a> {
 }
 
 impl<'a> Ticket<'a> {
-    // The ticket in some bytes, where it can be one of a sealer with this overhead.
+    // The ticket in some bytes, where it can be one of a sealer with this overhead. No `then_some`: it would build the ticket
+    // before its length is known, and a ticket has its heading by its type. Nor `then`: inside its closure the length is known
+    // only by a `requires` of its own, and so it is no shorter (tried).
     fn of(bytes: &'a [u8], overhead: usize) -> Option<Ticket<'a>>
-        requires { overhead ≤ overhead_most }
+        requires { overhead ≤ overhead_limit }
         ensures { result ≡ cond (ticket_fits overhead (length bytes.now)) (Some bytes.now) None }
     {
         let fitting = HEADING + RECORD_LEAST + overhead..=HEADING + RECORD_LIMIT + overhead;
@@ -85,7 +69,7 @@ impl<'a> Ticket<'a> {
     }
 
     // Whether it bears a name.
-    fn bears(&self, name: &[u8; 16]) -> bool
+    fn bears(&self, name: &[u8; NAME]) -> bool
         ensures { result ≡ same_bytes (name_in self.now) name.now }
     {
         same_bytes(&self.bytes[0..NAME], name)
@@ -99,12 +83,10 @@ impl<'a> Ticket<'a> {
     }
 
     // Its heading.
-    fn heading(&self) -> [u8; HEADING]
-        ensures { result ≡ heading_in self.now }
+    fn heading(&self) -> &[u8; HEADING]
+        ensures { result.now ≡ heading_in self.now }
     {
-        let mut heading = [0; HEADING];
-        heading.copy_from_slice(&self.bytes[0..HEADING]);
-        heading
+        self.bytes.first_chunk().unwrap()
     }
 
     // Its sealed part.
@@ -116,7 +98,7 @@ impl<'a> Ticket<'a> {
 
     // Checks its name and its number against the head.
     fn check(&self, head: &Head) -> Result<(), Halt>
-        ensures { (k : Kit) (f : Sound) → ticket_fits k.overhead (length self.now) ≡ true → f.0 ≡ head.now → redeemable k self.now (Ok f) ≡ passing result f }
+        ensures { (k : Kit) (xs : List Link) → ticket_fits k.sealer.overhead (length self.now) ≡ true → redeemable k self.now (Ok (head.now, xs)) ≡ passing result (head.now, xs) }
     {
         if !self.bears(&head.name) {
             return Err(Halt::plain(Refusal::OtherName));
@@ -129,27 +111,28 @@ impl<'a> Ticket<'a> {
     }
 }
 
-// The number that a ticket asks for, where there is a ticket.
+// The number that a ticket asks for, where there is a ticket. It stands apart from its one use: of a `map` in the middle of
+// `read_for`, with a closure or with `Ticket::number`, the check told no more than that it was called.
 fn asked(ticket: &Option<Ticket>) -> Option<u32>
     ensures { result ≡ asked_by ticket.now }
 {
-    ticket.as_ref().map(|ticket| ticket.number())
+    ticket.as_ref().map(Ticket::number)
 }
 
 // Reads the file for a ticket, marks the chain's slots, and checks the ticket against the head.
-fn admit<'a, D: ReadSlots>(
-    d: &D,
-    numbers: Numbers,
-    overhead: usize,
+fn read_for<'a, D: ReadSlots, G: Generator, S: Sealer>(
+    device: &D,
+    generator: &G,
+    sealer: &S,
     bytes: &'a [u8],
     marks: &mut [u8],
-    slot: &mut [u8; 64],
+    slot: &mut [u8; SLOT_SIZE],
 ) -> Result<(Ticket<'a>, Survey), Halt>
-    requires { overhead ≤ overhead_most }
-    ensures { (k : Kit) → k.generator ≡ numbers.generator → k.sealer ≡ numbers.sealer → k.overhead ≡ overhead → 0 < length (D.ReadSlots.slots d.now) → room_of (length (D.ReadSlots.slots d.now)) ≤ length marks.old → Surveying k tree_levels (D.ReadSlots.slots d.now) (D.ReadSlots.powered d.now) bytes.now (length marks.old) result marks.new }
+    ensures { 0 < length (D.ReadSlots.state device.now).slots → room_of (length (D.ReadSlots.state device.now).slots) ≤ length marks.old → Surveying (kit_of (G.Generator.meaning generator.now) (S.Sealer.meaning sealer.now)) tree_levels (D.ReadSlots.state device.now) bytes.now (length marks.old) result marks.new }
 {
-    let ticket = Ticket::of(bytes, overhead);
-    let survey = read_marking(d, numbers, asked(&ticket), marks, slot)?;
+    let ticket = Ticket::of(bytes, sealer.overhead());
+    let numbers = numbers_of(generator, sealer);
+    let survey = read_marking(device, numbers, asked(&ticket), marks, slot)?;
     let Some(ticket) = ticket else {
         return Err(Halt::plain(Refusal::TicketLength));
     };
@@ -159,13 +142,13 @@ fn admit<'a, D: ReadSlots>(
 
 // Goes down to n's key from the value of the record found, keeps the siblings' values, and answers the generator calls made.
 fn derive_key<D: ReadSlots, G: Generator>(
-    d: &D,
-    g: &G,
+    device: &D,
+    generator: &G,
     found: &Found,
     n: u32,
     scratch: &mut Scratch,
 ) -> Result<u32, Halt>
-    ensures { (x : Link) → Met tree_levels (D.ReadSlots.slots d.now) (D.ReadSlots.powered d.now) found.now n x → Derived (G.Generator.expansion g.now) tree_levels n x result scratch.new.values.value scratch.new.row }
+    ensures { (x : Link) → Met tree_levels (D.ReadSlots.state device.now) found.now n x → Derived (G.Generator.meaning generator.now).expansion tree_levels n x result scratch.new.values.value scratch.new.row }
 {
     let Scratch {
         slot,
@@ -173,23 +156,24 @@ fn derive_key<D: ReadSlots, G: Generator>(
         row,
         ..
     } = scratch;
-    read_at(d, found.slot, slot)?;
+    read_at(device, found.slot, slot)?;
     copy_value(slot, &mut values.value);
-    descend_keeping(g, LEVELS, &found.node, n, values, row).ok_or(Halt::at(Refusal::Spent, n))
+    let calls = descend_keeping(generator, LEVELS, &found.node, n, values, row);
+    calls.ok_or(Halt::at(Refusal::Spent, n))
 }
 
 // Opens the sealed part of a ticket into the state's buffer, and answers the record's length.
 fn open_ticket<S: Sealer>(
-    s: &S,
+    sealer: &S,
     ticket: &Ticket,
-    key: &[u8; 32],
+    key: &Value,
     state: &mut [u8],
-    pad: &mut [u8; 64],
+    pad: &mut [u8; SLOT_SIZE],
 ) -> Result<usize, Halt>
-    ensures { most_length ≤ length state.old → Unsealing (S.Sealer.sealing s.now key.now (heading_in ticket.now)) (sealed_in ticket.now) (number_in ticket.now) (length state.old) result state.new }
+    ensures { most_length ≤ length state.old → Unsealing ((S.Sealer.meaning sealer.now).sealing key.now (heading_in ticket.now)) (sealed_in ticket.now) (number_in ticket.now) (length state.old) result state.new }
 {
-    let opened = s
-        .open(key, &ticket.heading(), ticket.sealed(), state, pad)
+    let opened = sealer
+        .open(key, ticket.heading(), ticket.sealed(), state, pad)
         .map_err(Halt::plain)?;
     let Some(length) = opened else {
         return Err(Halt::at(Refusal::SealBroken, ticket.number()));
@@ -202,9 +186,9 @@ fn open_ticket<S: Sealer>(
 
 // Opens the ticket under the record found, and punctures the tree at its number. `records` is the chain's length.
 fn spend<D: WriteSlots, G: Generator, S: Sealer>(
-    d: &mut D,
-    g: &G,
-    s: &S,
+    device: &mut D,
+    generator: &G,
+    sealer: &S,
     count: u16,
     records: u32,
     found: &Found,
@@ -213,16 +197,22 @@ fn spend<D: WriteSlots, G: Generator, S: Sealer>(
     marks: &[u8],
     scratch: &mut Scratch,
 ) -> Result<(usize, u32), Halt>
-    ensures { (f : Sound) (front : List Link) (x : Link) (back : List Link) → Spotted (kit_of (G.Generator.expansion g.now) (G.Generator.code g.now) (S.Sealer.sealing s.now) (S.Sealer.overhead s.now) (S.Sealer.number s.now)) tree_levels (D.ReadSlots.slots d.old) (D.ReadSlots.powered d.old) ticket.now (length state.old) count records found.now marks.now f front x back → (joined : Bool) × Redeeming (kit_of (G.Generator.expansion g.now) (G.Generator.code g.now) (S.Sealer.sealing s.now) (S.Sealer.overhead s.now) (S.Sealer.number s.now)) tree_levels (D.ReadSlots.slots d.old) (D.ReadSlots.powered d.old) ticket.now (length state.old) (length marks.now) result (kept result (length state.old) state.new) (D.ReadSlots.slots d.new) (D.ReadSlots.powered d.new) joined }
+    ensures { (f : Sound) (front : List Link) (x : Link) (back : List Link) → Spotted (kit_of (G.Generator.meaning generator.now) (S.Sealer.meaning sealer.now)) tree_levels (D.ReadSlots.state device.old) ticket.now (length state.old) count records found.now marks.now f front x back → (joined : Bool) × Redeeming (kit_of (G.Generator.meaning generator.now) (S.Sealer.meaning sealer.now)) tree_levels (D.ReadSlots.state device.old) ticket.now (length state.old) (length marks.now) result (kept result (length state.old) state.new) (D.ReadSlots.state device.new) joined }
 {
     let number = ticket.number();
-    let calls = derive_key(d, g, found, number, scratch)?;
-    let length = open_ticket(s, ticket, &scratch.values.value, state, &mut scratch.pad)?;
+    let calls = derive_key(device, generator, found, number, scratch)?;
+    let length = open_ticket(
+        sealer,
+        ticket,
+        &scratch.values.value,
+        state,
+        &mut scratch.pad,
+    )?;
     if u32::from(count).saturating_sub(1).saturating_sub(records) < calls {
         return Err(Halt::at(Refusal::NoFreeSlot, number));
     }
     puncture(
-        d,
+        device,
         count,
         found,
         number,
@@ -235,29 +225,25 @@ fn spend<D: WriteSlots, G: Generator, S: Sealer>(
 
 // Redeems, and leaves the buffers to be cleared.
 fn redeem_in<D: WriteSlots, G: Generator, S: Sealer>(
-    d: &mut D,
-    g: &G,
-    s: &S,
+    device: &mut D,
+    generator: &G,
+    sealer: &S,
     ticket: &[u8],
     state: &mut [u8],
     marks: &mut [u8],
     scratch: &mut Scratch,
 ) -> Result<(usize, u32), Halt>
-    ensures { (joined : Bool) × Redeeming (kit_of (G.Generator.expansion g.now) (G.Generator.code g.now) (S.Sealer.sealing s.now) (S.Sealer.overhead s.now) (S.Sealer.number s.now)) tree_levels (D.ReadSlots.slots d.old) (D.ReadSlots.powered d.old) ticket.now (length state.old) (length marks.old) result (kept result (length state.old) state.new) (D.ReadSlots.slots d.new) (D.ReadSlots.powered d.new) joined }
+    ensures { (joined : Bool) × Redeeming (kit_of (G.Generator.meaning generator.now) (S.Sealer.meaning sealer.now)) tree_levels (D.ReadSlots.state device.old) ticket.now (length state.old) (length marks.old) result (kept result (length state.old) state.new) (D.ReadSlots.state device.new) joined }
 {
-    let count = enter(d, state.len(), marks.len())?;
-    let numbers = Numbers {
-        generator: g.number(),
-        sealer: s.number(),
-    };
-    let (ticket, survey) = admit(d, numbers, s.overhead(), ticket, marks, &mut scratch.slot)?;
+    let count = admit(device, RECORD_LIMIT, state.len(), marks.len())?;
+    let (ticket, survey) = read_for(device, generator, sealer, ticket, marks, &mut scratch.slot)?;
     let Some(found) = survey.found else {
         return Err(Halt::at(Refusal::Spent, ticket.number()));
     };
     spend(
-        d,
-        g,
-        s,
+        device,
+        generator,
+        sealer,
         count,
         survey.length,
         &found,
@@ -272,19 +258,19 @@ fn redeem_in<D: WriteSlots, G: Generator, S: Sealer>(
 /// zeros after it. Answers how long the state is and how often the generator was called. A refused call leaves zeros in the
 /// buffer, and every call leaves zeros in the marks and the scratch. For the server alone: it works on a bare device.
 pub fn redeem_on<D: WriteSlots, G: Generator, S: Sealer>(
-    d: &mut D,
-    g: &G,
-    s: &S,
+    device: &mut D,
+    generator: &G,
+    sealer: &S,
     ticket: &[u8],
     state: &mut [u8],
     marks: &mut [u8],
     scratch: &mut Scratch,
 ) -> Result<(usize, u32), Halt>
-    ensures did { (joined : Bool) × Redeeming (kit_of (G.Generator.expansion g.now) (G.Generator.code g.now) (S.Sealer.sealing s.now) (S.Sealer.overhead s.now) (S.Sealer.number s.now)) tree_levels (D.ReadSlots.slots d.old) (D.ReadSlots.powered d.old) ticket.now (length state.old) (length marks.old) result state.new (D.ReadSlots.slots d.new) (D.ReadSlots.powered d.new) joined }
+    ensures did { (joined : Bool) × Redeeming (kit_of (G.Generator.meaning generator.now) (S.Sealer.meaning sealer.now)) tree_levels (D.ReadSlots.state device.old) ticket.now (length state.old) (length marks.old) result state.new (D.ReadSlots.state device.new) joined }
     ensures marks { marks.new ≡ zeros (length marks.old) }
     ensures clean { Clean scratch.new }
 {
-    let answer = redeem_in(d, g, s, ticket, state, marks, scratch);
+    let answer = redeem_in(device, generator, sealer, ticket, state, marks, scratch);
     if answer.is_err() {
         clear(state);
     }

@@ -44,12 +44,12 @@ pub enum Refusal {
     NoSuchSlot = 16,
 }
 
-impl Refusal {
-    /// The refusal's number, from 1 to 16.
-    pub fn number(self) -> u8
-        ensures { result ≡ number_of self }
-    {
-        self as u8
+/// The refusal's number, from 1 to 16.
+impl From<Refusal> for u8 {
+    ghost from_gives = { λ refusal number. number ≡ number_of refusal };
+
+    fn from(refusal: Refusal) -> u8 {
+        refusal as u8
     }
 }
 

@@ -5,7 +5,7 @@ use Rattle.refusal.specs.declared.Refusal.TheVariants.{ShortBuffer, SlotCount, N
 use Rattle.fault.specs.declared.Halt.{Halt}
 use Rattle.fault.specs.declared.Step.TheVariants.{Read, Restart}
 use Rattle.fault.specs.Faults.{plainly, placed, unpowered}
-use Rattle.device.specs.Effects.{Slots}
+use Rattle.device.specs.Effects.{Slots, State}
 use Rattle.session.specs.Limits.{most_length}
 use Rattle.session.specs.Records.{is_record}
 use Rattle.layout.specs.declared.Head.{Head}
@@ -16,7 +16,7 @@ use Rattle.tree.specs.Puncture.{siblings_from}
 use Rattle.tree.specs.Values.{valued, key_from, value_from, Counted}
 use Rattle.marks.specs.Rows.{room_of}
 use Rattle.chain.specs.Reading.{Link, File, file_of, bad_head, bad_link, uncovered, sound}
-use Rattle.rules.specs.Kits.{Kit}
+use Rattle.rules.specs.Kits.{Kit, numbers_in}
 use Rattle.rules.specs.Tickets.{ticket_of, name_in, number_in, heading_in, sealed_in, ticket_least, ticket_longest, ticket_most}
 use Rattle.steps.specs.Writes.{stood, CutShort}
 use Rattle.rules.specs.Files.{issue_write, links_in, redeem_writes, FreeSlots, free_count, make_writes, sweep_writes}
@@ -51,6 +51,22 @@ abbrev pub Fitting : ℕ → Slots → Result ℕ Halt → Type 0
 Fitting d s (Ok n) = (count_fits d s ≡ true) × (n ≡ length s)
 Fitting d s (Err h) = (count_fits d s ≡ false) × (h ≡ plainly SlotCount)
 
+-- What stops a call at its beginning, in this order: a buffer of `room` bytes shorter than `least`, too few bytes of marks for the
+-- slots, a slot count that does not fit.
+abbrev pub entry_verdict : ℕ → Slots → ℕ → ℕ → ℕ → Result (Unit {0}) Halt
+entry_verdict d s least room marks =
+    cond (nat_le least room && nat_le (room_of (length s)) marks) (cond (count_fits d s) (Ok tt) (Err (plainly SlotCount))) (Err (plainly ShortBuffer))
+
+-- the slot count where nothing stops the call so far, else what does
+abbrev pub Admitted : ℕ → Slots → ℕ → ℕ → ℕ → Result ℕ Halt → Type 0
+Admitted d s least room marks (Ok n) = (entry_verdict d s least room marks ≡ Ok tt) × (n ≡ length s)
+Admitted d s least room marks (Err h) = entry_verdict d s least room marks ≡ Err h
+
+-- what comes after the beginning, where nothing stops the call there
+abbrev pub entered : Result (Unit {0}) Halt → Result Sound Halt → Result Sound Halt
+entered (Ok u) f = f
+entered (Err h) f = Err h
+
 -- the file as a call reads it
 abbrev pub read_as : Bool → File → Result Sound Halt
 read_as false f = Err (unpowered 0 Read)
@@ -59,8 +75,12 @@ read_as true (bad_link i) = Err (placed BadLink i)
 read_as true (uncovered n) = Err (placed Uncovered n)
 read_as true (sound h xs) = Ok (h, xs)
 
-abbrev pub read_by : Kit → ℕ → Slots → Bool → Result Sound Halt
-read_by k d s on = read_as on (file_of d k.generator k.sealer s)
+abbrev pub read_by : Kit → ℕ → State → Result Sound Halt
+read_by k d s = read_as s.power (file_of d (numbers_in k) s.slots)
+
+-- slots with the power on, as a restart leaves them
+abbrev pub powered : Slots → State
+powered s = record { slots = s; power = true }
 
 abbrev pub same_bytes : List ℕ → List ℕ → Bool
 same_bytes [] [] = true
@@ -69,9 +89,8 @@ same_bytes (x ∷ xs) [] = false
 same_bytes (x ∷ xs) (y ∷ ys) = x == y && same_bytes xs ys
 
 -- nothing was written, and the lent buffer holds zeros
-pub record Untouched (s : Slots) (on : Bool) (room : ℕ) (buffer : List ℕ) (t : Slots) (on' : Bool) : Type 0 where
-  pub slots : t ≡ s
-  pub power : on' ≡ on
+pub record Untouched (s : State) (room : ℕ) (buffer : List ℕ) (t : State) : Type 0 where
+  pub state : t ≡ s
   pub zero : buffer ≡ zeros room
 
 -- ---- issue: of the bytes `plain`, into a ticket buffer of `room` bytes, with `marks` bytes of marks
@@ -80,27 +99,25 @@ issuable d (Err h) = Err h
 issuable d (Ok f) = cond (nat_lt f.0.issued (2 ^ d)) (Ok f) (Err (plainly Exhausted))
 
 -- what stops an issue before it writes, or the file
-abbrev pub issue_verdict : Kit → ℕ → Slots → Bool → List ℕ → ℕ → ℕ → Result Sound Halt
-issue_verdict k d s on plain room marks =
-    cond (nat_le ticket_most room && nat_le (room_of (length s)) marks)
-    (cond (count_fits d s) (cond (is_record plain) (issuable d (read_by k d s on)) (Err (plainly NotARecord))) (Err (plainly SlotCount)))
-    (Err (plainly ShortBuffer))
+abbrev pub issue_verdict : Kit → ℕ → State → List ℕ → ℕ → ℕ → Result Sound Halt
+issue_verdict k d s plain room marks =
+    entered (entry_verdict d s.slots ticket_most room marks) (cond (is_record plain) (issuable d (read_by k d s)) (Err (plainly NotARecord)))
 
 -- the ticket of the next number, from a record x that covers it
 abbrev pub issued_ticket : Kit → ℕ → Head → Link → List ℕ → List ℕ
-issued_ticket k d h x plain = ticket_of k h.name h.issued (key_from k.expansion d x.node x.value h.issued) plain
+issued_ticket k d h x plain = ticket_of k h.name h.issued (key_from k.generator.expansion d x.node x.value h.issued) plain
 
 -- `headed` says whether the head's write stands
-pub data Issuing (k : Kit) (d : ℕ) (s : Slots) (on : Bool) (plain : List ℕ) (room marks : ℕ) (r : Outcome) (ticket : List ℕ) (t : Slots) (on' : Bool) (headed : Bool) : Type 0 where
-  declined : (h : Halt) → issue_verdict k d s on plain room marks ≡ Err h → r ≡ Err h → Untouched s on room ticket t on' → headed ≡ false →
-      Issuing k d s on plain room marks r ticket t on' headed
-  cut : (f : Sound) (m : ℕ) (h : Halt) → issue_verdict k d s on plain room marks ≡ Ok f →
-      CutShort s (issue_write s f.0 ∷ []) m h t → r ≡ Err h → on' ≡ false → ticket ≡ zeros room → headed ≡ nat_lt 0 m →
-      Issuing k d s on plain room marks r ticket t on' headed
-  given : (f : Sound) (x : Link) → issue_verdict k d s on plain room marks ≡ Ok f → In x f.1 → Covers d x.node f.0.issued →
+pub data Issuing (k : Kit) (d : ℕ) (s : State) (plain : List ℕ) (room marks : ℕ) (r : Outcome) (ticket : List ℕ) (t : State) (headed : Bool) : Type 0 where
+  declined : (h : Halt) → issue_verdict k d s plain room marks ≡ Err h → r ≡ Err h → Untouched s room ticket t → headed ≡ false →
+      Issuing k d s plain room marks r ticket t headed
+  cut : (f : Sound) (m : ℕ) (h : Halt) → issue_verdict k d s plain room marks ≡ Ok f →
+      CutShort s.slots (issue_write s.slots f.0 ∷ []) m h t.slots → r ≡ Err h → t.power ≡ false → ticket ≡ zeros room → headed ≡ nat_lt 0 m →
+      Issuing k d s plain room marks r ticket t headed
+  given : (f : Sound) (x : Link) → issue_verdict k d s plain room marks ≡ Ok f → In x f.1 → Covers d x.node f.0.issued →
       Finished d x.node f.0.issued (length (issued_ticket k d f.0 x plain)) r → ticket ≡ filled (issued_ticket k d f.0 x plain) room →
-      t ≡ stood s (issue_write s f.0 ∷ []) → on' ≡ true → headed ≡ true →
-      Issuing k d s on plain room marks r ticket t on' headed
+      t.slots ≡ stood s.slots (issue_write s.slots f.0 ∷ []) → t.power ≡ true → headed ≡ true →
+      Issuing k d s plain room marks r ticket t headed
 
 -- ---- redeem: of the bytes `ticket`, into a state buffer of `room` bytes, with `marks` bytes of marks
 abbrev pub redeemable : Kit → List ℕ → Result Sound Halt → Result Sound Halt
@@ -113,26 +130,23 @@ redeemable k ticket (Ok f) =
     (Err (plainly TicketLength))
 
 -- what stops a redemption before the chain is searched, or the file
-abbrev pub redeem_verdict : Kit → ℕ → Slots → Bool → List ℕ → ℕ → ℕ → Result Sound Halt
-redeem_verdict k d s on ticket room marks =
-    cond (nat_le most_length room && nat_le (room_of (length s)) marks)
-    (cond (count_fits d s) (redeemable k ticket (read_by k d s on)) (Err (plainly SlotCount)))
-    (Err (plainly ShortBuffer))
+abbrev pub redeem_verdict : Kit → ℕ → State → List ℕ → ℕ → ℕ → Result Sound Halt
+redeem_verdict k d s ticket room marks = entered (entry_verdict d s.slots most_length room marks) (redeemable k ticket (read_by k d s))
 
 -- the record x of the chain covers the ticket's number; front and back are the chain before and after it
-pub record Hit (k : Kit) (d : ℕ) (s : Slots) (on : Bool) (ticket : List ℕ) (room marks : ℕ) (f : Sound) (front : List Link) (x : Link) (back : List Link) : Type 0 where
-  pub verdict : redeem_verdict k d s on ticket room marks ≡ Ok f
+pub record Hit (k : Kit) (d : ℕ) (s : State) (ticket : List ℕ) (room marks : ℕ) (f : Sound) (front : List Link) (x : Link) (back : List Link) : Type 0 where
+  pub verdict : redeem_verdict k d s ticket room marks ≡ Ok f
   pub chain : f.1 ≡ front ++ (x ∷ back)
   pub covers : Covers d x.node (number_in ticket)
 
 -- the plain is sealed in the ticket, under the key that follows from the record x
 pub record Seals (k : Kit) (d : ℕ) (ticket : List ℕ) (x : Link) (plain : List ℕ) : Type 0 where
   pub short : length plain ≤ most_length
-  pub sealing : k.sealing (key_from k.expansion d x.node x.value (number_in ticket)) (heading_in ticket) plain ≡ sealed_in ticket
+  pub sealing : k.sealer.sealing (key_from k.generator.expansion d x.node x.value (number_in ticket)) (heading_in ticket) plain ≡ sealed_in ticket
 
 -- the links that come in for x: in the slots fs, the siblings on the way down to n with the values that follow from x's
 abbrev pub new_links : Kit → ℕ → Link → ℕ → List ℕ → List Link
-new_links k d x n fs = links_in fs (valued (value_from k.expansion d x.node x.value) (siblings_from d x.node n))
+new_links k d x n fs = links_in fs (valued (value_from k.generator.expansion d x.node x.value) (siblings_from d x.node n))
 
 -- all is there for a puncture, which takes the free slots fs: which these are is left open
 pub record Ready (k : Kit) (d : ℕ) (s : Slots) (f : Sound) (x : Link) (plain : List ℕ) (fs : List ℕ) : Type 0 where
@@ -142,55 +156,55 @@ pub record Ready (k : Kit) (d : ℕ) (s : Slots) (f : Sound) (x : Link) (plain :
   pub many : length fs ≡ d - x.node.depth
 
 -- `joined` says whether the join's write stands
-pub data Redeeming (k : Kit) (d : ℕ) (s : Slots) (on : Bool) (ticket : List ℕ) (room marks : ℕ) (r : Outcome) (state : List ℕ) (t : Slots) (on' : Bool) (joined : Bool) : Type 0 where
-  declined : (h : Halt) → redeem_verdict k d s on ticket room marks ≡ Err h → r ≡ Err h → Untouched s on room state t on' → joined ≡ false →
-      Redeeming k d s on ticket room marks r state t on' joined
-  spent : (f : Sound) → redeem_verdict k d s on ticket room marks ≡ Ok f → ((x : Link) → In x f.1 → Covers d x.node (number_in ticket) → ⊥) →
-      r ≡ Err (placed Spent (number_in ticket)) → Untouched s on room state t on' → joined ≡ false →
-      Redeeming k d s on ticket room marks r state t on' joined
-  shut : (f : Sound) (front : List Link) (x : Link) (back : List Link) → Hit k d s on ticket room marks f front x back →
+pub data Redeeming (k : Kit) (d : ℕ) (s : State) (ticket : List ℕ) (room marks : ℕ) (r : Outcome) (state : List ℕ) (t : State) (joined : Bool) : Type 0 where
+  declined : (h : Halt) → redeem_verdict k d s ticket room marks ≡ Err h → r ≡ Err h → Untouched s room state t → joined ≡ false →
+      Redeeming k d s ticket room marks r state t joined
+  spent : (f : Sound) → redeem_verdict k d s ticket room marks ≡ Ok f → ((x : Link) → In x f.1 → Covers d x.node (number_in ticket) → ⊥) →
+      r ≡ Err (placed Spent (number_in ticket)) → Untouched s room state t → joined ≡ false →
+      Redeeming k d s ticket room marks r state t joined
+  shut : (f : Sound) (front : List Link) (x : Link) (back : List Link) → Hit k d s ticket room marks f front x back →
       ((plain : List ℕ) → Seals k d ticket x plain → ⊥) →
-      r ≡ Err (placed SealBroken (number_in ticket)) → Untouched s on room state t on' → joined ≡ false →
-      Redeeming k d s on ticket room marks r state t on' joined
-  strange : (f : Sound) (front : List Link) (x : Link) (back : List Link) (plain : List ℕ) → Hit k d s on ticket room marks f front x back →
+      r ≡ Err (placed SealBroken (number_in ticket)) → Untouched s room state t → joined ≡ false →
+      Redeeming k d s ticket room marks r state t joined
+  strange : (f : Sound) (front : List Link) (x : Link) (back : List Link) (plain : List ℕ) → Hit k d s ticket room marks f front x back →
       Seals k d ticket x plain → is_record plain ≡ false →
-      r ≡ Err (placed OpenedNotARecord (number_in ticket)) → Untouched s on room state t on' → joined ≡ false →
-      Redeeming k d s on ticket room marks r state t on' joined
-  full : (f : Sound) (front : List Link) (x : Link) (back : List Link) (plain : List ℕ) → Hit k d s on ticket room marks f front x back →
-      Seals k d ticket x plain → is_record plain ≡ true → free_count s f.1 < d - x.node.depth →
-      r ≡ Err (placed NoFreeSlot (number_in ticket)) → Untouched s on room state t on' → joined ≡ false →
-      Redeeming k d s on ticket room marks r state t on' joined
+      r ≡ Err (placed OpenedNotARecord (number_in ticket)) → Untouched s room state t → joined ≡ false →
+      Redeeming k d s ticket room marks r state t joined
+  full : (f : Sound) (front : List Link) (x : Link) (back : List Link) (plain : List ℕ) → Hit k d s ticket room marks f front x back →
+      Seals k d ticket x plain → is_record plain ≡ true → free_count s.slots f.1 < d - x.node.depth →
+      r ≡ Err (placed NoFreeSlot (number_in ticket)) → Untouched s room state t → joined ≡ false →
+      Redeeming k d s ticket room marks r state t joined
   cut : (f : Sound) (front : List Link) (x : Link) (back : List Link) (plain : List ℕ) (fs : List ℕ) (m : ℕ) (h : Halt) →
-      Hit k d s on ticket room marks f front x back → Seals k d ticket x plain → Ready k d s f x plain fs →
-      CutShort s (redeem_writes s front x back (new_links k d x (number_in ticket) fs)) m h t → r ≡ Err h → on' ≡ false → state ≡ zeros room →
+      Hit k d s ticket room marks f front x back → Seals k d ticket x plain → Ready k d s.slots f x plain fs →
+      CutShort s.slots (redeem_writes s.slots front x back (new_links k d x (number_in ticket) fs)) m h t.slots → r ≡ Err h → t.power ≡ false → state ≡ zeros room →
       joined ≡ nat_lt (d - x.node.depth) m →
-      Redeeming k d s on ticket room marks r state t on' joined
+      Redeeming k d s ticket room marks r state t joined
   opened : (f : Sound) (front : List Link) (x : Link) (back : List Link) (plain : List ℕ) (fs : List ℕ) →
-      Hit k d s on ticket room marks f front x back → Seals k d ticket x plain → Ready k d s f x plain fs →
-      t ≡ stood s (redeem_writes s front x back (new_links k d x (number_in ticket) fs)) → on' ≡ true → joined ≡ true →
+      Hit k d s ticket room marks f front x back → Seals k d ticket x plain → Ready k d s.slots f x plain fs →
+      t.slots ≡ stood s.slots (redeem_writes s.slots front x back (new_links k d x (number_in ticket) fs)) → t.power ≡ true → joined ≡ true →
       Finished d x.node (number_in ticket) (length plain) r → state ≡ filled plain room →
-      Redeeming k d s on ticket room marks r state t on' joined
+      Redeeming k d s ticket room marks r state t joined
 
 -- ---- reopen, with `marks` bytes of marks
 abbrev pub reopen_verdict : ℕ → Slots → ℕ → Result (Unit {0}) Halt
-reopen_verdict d s marks = cond (nat_le (room_of (length s)) marks) (cond (count_fits d s) (Ok tt) (Err (plainly SlotCount))) (Err (plainly ShortBuffer))
+reopen_verdict d s marks = entry_verdict d s 0 0 marks
 
-pub data Reopening (k : Kit) (d : ℕ) (s : Slots) (on : Bool) (marks : ℕ) (r : Result (Unit {0}) Halt) (t : Slots) (on' : Bool) : Type 0 where
-  declined : (h : Halt) → reopen_verdict d s marks ≡ Err h → r ≡ Err h → t ≡ s → on' ≡ on → Reopening k d s on marks r t on'
-  stopped : reopen_verdict d s marks ≡ Ok tt → r ≡ Err (unpowered 0 Restart) → t ≡ s → on' ≡ false → Reopening k d s on marks r t on'
-  faulty : (h : Halt) → reopen_verdict d s marks ≡ Ok tt → read_by k d s true ≡ Err h → r ≡ Err h → t ≡ s → on' ≡ true → Reopening k d s on marks r t on'
-  cut : (f : Sound) (m : ℕ) (h : Halt) → reopen_verdict d s marks ≡ Ok tt → read_by k d s true ≡ Ok f → CutShort s (sweep_writes s f.1) m h t → r ≡ Err h → on' ≡ false →
-      Reopening k d s on marks r t on'
-  swept : (f : Sound) → reopen_verdict d s marks ≡ Ok tt → read_by k d s true ≡ Ok f → t ≡ stood s (sweep_writes s f.1) → r ≡ Ok tt → on' ≡ true →
-      Reopening k d s on marks r t on'
+pub data Reopening (k : Kit) (d : ℕ) (s : State) (marks : ℕ) (r : Result (Unit {0}) Halt) (t : State) : Type 0 where
+  declined : (h : Halt) → reopen_verdict d s.slots marks ≡ Err h → r ≡ Err h → t ≡ s → Reopening k d s marks r t
+  stopped : reopen_verdict d s.slots marks ≡ Ok tt → r ≡ Err (unpowered 0 Restart) → t.slots ≡ s.slots → t.power ≡ false → Reopening k d s marks r t
+  faulty : (h : Halt) → reopen_verdict d s.slots marks ≡ Ok tt → read_by k d (powered s.slots) ≡ Err h → r ≡ Err h → t.slots ≡ s.slots → t.power ≡ true → Reopening k d s marks r t
+  cut : (f : Sound) (m : ℕ) (h : Halt) → reopen_verdict d s.slots marks ≡ Ok tt → read_by k d (powered s.slots) ≡ Ok f → CutShort s.slots (sweep_writes s.slots f.1) m h t.slots → r ≡ Err h → t.power ≡ false →
+      Reopening k d s marks r t
+  swept : (f : Sound) → reopen_verdict d s.slots marks ≡ Ok tt → read_by k d (powered s.slots) ≡ Ok f → t.slots ≡ stood s.slots (sweep_writes s.slots f.1) → r ≡ Ok tt → t.power ≡ true →
+      Reopening k d s marks r t
 
 -- ---- make, of a root value under a key name; `headed` says whether the head's write stands
-pub data Making (k : Kit) (d : ℕ) (s : Slots) (on : Bool) (root name : List ℕ) (r : Result (Unit {0}) Halt) (t : Slots) (on' : Bool) (headed : Bool) : Type 0 where
-  declined : count_fits d s ≡ false → r ≡ Err (plainly SlotCount) → t ≡ s → on' ≡ on → headed ≡ false → Making k d s on root name r t on' headed
-  stopped : count_fits d s ≡ true → r ≡ Err (unpowered 0 Restart) → t ≡ s → on' ≡ false → headed ≡ false → Making k d s on root name r t on' headed
-  cut : (m : ℕ) (h : Halt) → count_fits d s ≡ true → CutShort s (make_writes k d s root name) m h t → r ≡ Err h → on' ≡ false → headed ≡ nat_lt (length s + 1) m →
-      Making k d s on root name r t on' headed
-  made : count_fits d s ≡ true → t ≡ stood s (make_writes k d s root name) → r ≡ Ok tt → on' ≡ true → headed ≡ true → Making k d s on root name r t on' headed
+pub data Making (k : Kit) (d : ℕ) (s : State) (root name : List ℕ) (r : Result (Unit {0}) Halt) (t : State) (headed : Bool) : Type 0 where
+  declined : count_fits d s.slots ≡ false → r ≡ Err (plainly SlotCount) → t ≡ s → headed ≡ false → Making k d s root name r t headed
+  stopped : count_fits d s.slots ≡ true → r ≡ Err (unpowered 0 Restart) → t.slots ≡ s.slots → t.power ≡ false → headed ≡ false → Making k d s root name r t headed
+  cut : (m : ℕ) (h : Halt) → count_fits d s.slots ≡ true → CutShort s.slots (make_writes k d s.slots root name) m h t.slots → r ≡ Err h → t.power ≡ false → headed ≡ nat_lt (length s.slots + 1) m →
+      Making k d s root name r t headed
+  made : count_fits d s.slots ≡ true → t.slots ≡ stood s.slots (make_writes k d s.slots root name) → r ≡ Ok tt → t.power ≡ true → headed ≡ true → Making k d s root name r t headed
 
 -- the buffer of a call that was stopped holds zeros
 abbrev pub kept : Outcome → ℕ → List ℕ → List ℕ

@@ -8,7 +8,7 @@ use Rattle.layout.specs.Records.{encode_head, encode_node, relinked, recounted}
 use Rattle.tree.specs.Values.{Valued}
 use Rattle.tree.specs.Cover.{In, Distinct}
 use Rattle.chain.specs.Reading.{Link, slots_of}
-use Rattle.rules.specs.Kits.{Kit}
+use Rattle.rules.specs.Kits.{Kit, numbers_in}
 use Rattle.steps.specs.OneStep.{Write}
 
 -- ---- issuing: one write, of the head
@@ -72,7 +72,7 @@ abbrev pub root_record : List ℕ → Slot
 root_record root = encode_node (record { depth = 0; first = 0; next = 0 }) root
 
 abbrev pub first_head : Kit → List ℕ → Head
-first_head k name = record { first = 1; issued = 0; name = name; generator = k.generator; sealer = k.sealer }
+first_head k name = record { first = 1; issued = 0; name = name; numbers = numbers_in k }
 
 -- zeros to every slot, then the root's record to slot 1, then the head
 abbrev pub tree_writes : ℕ → Slots → List ℕ → Head → List Write

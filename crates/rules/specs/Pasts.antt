@@ -3,8 +3,10 @@ use Rattle.std.specs.Prelude.{◌≡◌, ℕ, Bool, true, false, cond, List, len
 use Rattle.refusal.specs.declared.Refusal.{Refusal}
 use Rattle.refusal.specs.declared.Refusal.TheVariants.{NoPower}
 use Rattle.fault.specs.declared.Halt.{Halt}
-use Rattle.device.specs.Effects.{Slots}
-use Rattle.rules.specs.Kits.{Kit, value_length, name_length}
+use Rattle.device.specs.Effects.{State}
+use Rattle.generator.specs.Bytes.{value_length}
+use Rattle.sealer.specs.Limits.{name_length}
+use Rattle.rules.specs.Kits.{Kit}
 use Rattle.rules.specs.Calls.{Outcome, Making, Issuing, Redeeming, Reopening}
 use Rattle.rules.specs.Books.{Book, fresh_book, issue, redeem, close, reopen, fed}
 
@@ -31,16 +33,16 @@ abbrev pub mode_of : Result (Unit {0}) Halt → Mode
 mode_of (Ok u) = running
 mode_of (Err h) = cold
 
-pub data Past (k : Kit) (d : ℕ) (root name : List ℕ) : Mode → Slots → Bool → Book → Type 0 where
-  made : (s : Slots) (on : Bool) (r : Result (Unit {0}) Halt) (t : Slots) (on' : Bool) →
-      length root ≡ value_length → length name ≡ name_length → Making k d s on root name r t on' true →
-      Past k d root name (mode_of r) t on' fresh_book
-  issued : (s : Slots) (on : Bool) (b : Book) (plain : List ℕ) (room marks : ℕ) (r : Outcome) (ticket : List ℕ) (t : Slots) (on' headed : Bool) →
-      Past k d root name running s on b → Issuing k d s on plain room marks r ticket t on' headed →
-      Past k d root name (mode_after r) t on' (fed b (issue plain r ticket headed))
-  redeemed : (s : Slots) (on : Bool) (b : Book) (ticket : List ℕ) (room marks : ℕ) (r : Outcome) (state : List ℕ) (t : Slots) (on' joined : Bool) →
-      Past k d root name running s on b → Redeeming k d s on ticket room marks r state t on' joined →
-      Past k d root name (mode_after r) t on' (fed b (redeem ticket r joined))
-  closed : (s : Slots) (on : Bool) (b : Book) → Past k d root name running s on b → Past k d root name cold s on (fed b close)
-  reopened : (s : Slots) (on : Bool) (b : Book) (marks : ℕ) (r : Result (Unit {0}) Halt) (t : Slots) (on' : Bool) →
-      Past k d root name cold s on b → Reopening k d s on marks r t on' → Past k d root name (mode_of r) t on' (fed b (reopen r))
+pub data Past (k : Kit) (d : ℕ) (root name : List ℕ) : Mode → State → Book → Type 0 where
+  made : (s : State) (r : Result (Unit {0}) Halt) (t : State) →
+      length root ≡ value_length → length name ≡ name_length → Making k d s root name r t true →
+      Past k d root name (mode_of r) t fresh_book
+  issued : (s : State) (b : Book) (plain : List ℕ) (room marks : ℕ) (r : Outcome) (ticket : List ℕ) (t : State) (headed : Bool) →
+      Past k d root name running s b → Issuing k d s plain room marks r ticket t headed →
+      Past k d root name (mode_after r) t (fed b (issue plain r ticket headed))
+  redeemed : (s : State) (b : Book) (ticket : List ℕ) (room marks : ℕ) (r : Outcome) (state : List ℕ) (t : State) (joined : Bool) →
+      Past k d root name running s b → Redeeming k d s ticket room marks r state t joined →
+      Past k d root name (mode_after r) t (fed b (redeem ticket r joined))
+  closed : (s : State) (b : Book) → Past k d root name running s b → Past k d root name cold s (fed b close)
+  reopened : (s : State) (b : Book) (marks : ℕ) (r : Result (Unit {0}) Halt) (t : State) →
+      Past k d root name cold s b → Reopening k d s marks r t → Past k d root name (mode_of r) t (fed b (reopen r))

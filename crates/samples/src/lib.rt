@@ -1,18 +1,24 @@
 //! What the programs show alike: where they print, sample sessions with a root and a key name, and rows of bytes.
 #![tactic(auto)]
 
-ghost use Rattle.std.specs.Prelude.{◌≡◌, ◌↔◌, ◌≤◌, ◌+◌, min, length, take, All, IsTrue, IsOk, Ok, ◌⊎◌};
+ghost use Rattle.std.specs.Prelude.{◌≡◌, ◌↔◌, ◌≤◌, ◌<◌, ◌+◌, min, length, take, map, All, IsTrue, IsOk, IfSome, Some, Ok};
+ghost use Rattle.std.specs.List.{fold, range_with_len};
 ghost use Rattle.session.specs.Records.{Fits, decode_of};
+ghost use Rattle.samples.specs.Sessions.{session_of, recorded};
+ghost use Rattle.samples.specs.Rows.{journal_byte, changed};
 
 use anyhow::anyhow;
-use session::{NAME_LIMIT, SECRET_LENGTH, SessionState, Suite};
+use device::SLOT_SIZE;
+use sealer::NAME;
+use session::{LIFETIME_LIMIT, NAME_LIMIT, SECRET_LENGTH, SessionState, Suite};
+use std::array;
 use std::fmt::Display;
 
 /// A root value.
 pub const ROOT: [u8; 32] = [0x5a; 32];
 
 /// A key name.
-pub const KEY_NAME: [u8; 16] = *b"a sample's name.";
+pub const KEY_NAME: [u8; NAME] = *b"a sample's name.";
 
 /// More bytes than any ticket or record has.
 pub const ROOM: usize = 160;
@@ -114,9 +120,56 @@ pub fn all_are(bytes: &[u8], value: u8) -> bool
     bytes.iter().all(|b| *b == value)
 }
 
+/// The bytes of the row that a journal stands on: ten slots and ten bytes more, for a sector image one whole sector and a broken one.
+pub const JOURNAL_ROW: usize = 650;
+
+// The byte at a place of that row.
+fn journal_byte(k: usize) -> u8
+    requires { k < 650 }
+    ensures { result ≡ journal_byte k }
+{
+    if k < 2 * SLOT_SIZE {
+        0
+    } else {
+        (k / SLOT_SIZE) as u8
+    }
+}
+
+/// A row for a journal. Every slot is filled with its own number, but the first two are blank: the journal's mark and copy.
+pub fn journal_row() -> [u8; JOURNAL_ROW]
+    ensures { result ≡ map journal_byte (range_with_len 0 650) }
+{
+    array::from_fn(|k| journal_byte(k))
+}
+
+/// A change of a file: a slot, a place in it, and the byte that is put there.
+pub type Change = (usize, usize, u8);
+
+// Makes one change of a file.
+fn put(file: &mut [u8], change: &Change)
+    ensures { file.new ≡ changed file.old change.now }
+{
+    let (slot, place, byte) = *change;
+    let at = slot.saturating_mul(SLOT_SIZE).saturating_add(place);
+    if at < file.len() {
+        file[at] = byte;
+    }
+}
+
+/// Makes changes of a file, one after the other. One past the file's end changes nothing.
+#[tactic(auto, using(std::proofs::lemmas::List::Sums::fold_more))]
+pub fn change(file: &mut [u8], changes: &[Change])
+    ensures { file.new ≡ fold changed file.old changes.now }
+{
+    for change in changes {
+        put(file, change);
+    }
+}
+
 /// A session by its name, of which as much is taken as a state holds, with a mark that tells it from others.
 pub fn session(name: &[u8], mark: u8) -> SessionState
-    ensures { Fits result }
+    ensures is { result ≡ session_of name.now mark }
+    ensures fits { Fits result }
 {
     let length = name.len().min(NAME_LIMIT);
     let mut row = [0; NAME_LIMIT];
@@ -124,7 +177,7 @@ pub fn session(name: &[u8], mark: u8) -> SessionState
     SessionState {
         suite: Suite::Aes128GcmSha256,
         issued_at: 1_700_000_000,
-        lifetime: 604_800,
+        lifetime: LIFETIME_LIMIT,
         age_add: mark as u32,
         early_data_limit: 16_384,
         secret: [mark; SECRET_LENGTH],
@@ -133,13 +186,20 @@ pub fn session(name: &[u8], mark: u8) -> SessionState
     }
 }
 
-/// The record of a session; no bytes where its fields make none.
-pub fn record_of(state: &SessionState) -> Bytes
-    ensures { (result.length ≡ 0) ⊎ (decode_of (take result.length result.row) ≡ Ok state.now) }
+/// The record of a state; none where its fields make none.
+pub fn record_of(state: &SessionState) -> Option<Bytes>
+    ensures is { result ≡ recorded state.now }
+    ensures reads { IfSome result (λ b. decode_of (take b.length b.row) ≡ Ok state.now) }
 {
     let mut row = [0; ROOM];
-    match state.write(&mut row) {
-        Ok(length) => Bytes { row, length },
-        Err(_) => Bytes::none(),
-    }
+    let length = state.write(&mut row).ok()?;
+    Some(Bytes { row, length })
+}
+
+/// The record of a session by its name and its mark.
+pub fn session_record(name: &[u8], mark: u8) -> Bytes
+    ensures is { recorded (session_of name.now mark) ≡ Some result }
+    ensures reads { decode_of (take result.length result.row) ≡ Ok (session_of name.now mark) }
+{
+    record_of(&session(name, mark)).unwrap()
 }

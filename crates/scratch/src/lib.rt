@@ -9,9 +9,10 @@ ghost use Rattle.scratch.specs.Clean.{Clean};
 use generator::{VALUE_SIZE, Value, Values};
 use tree::ROW;
 
-/// The bytes of a slot; a pad has as many.
+// The bytes of a slot; a pad has as many. No constant of crate device: scratch stands on no device.
 const SLOT: usize = 64;
 
+// Clean is a clause of each call and no invariant: inside a call the fields hold key material, and functions are lent them so.
 #[derive(Drop)]
 pub struct Scratch {
     /// a slot that is read or written

@@ -7,8 +7,10 @@ use Rattle.std.proofs.lemmas.List.{ext_get_or, length-append, length-drop, lengt
 use Rattle.std.proofs.lemmas.Slice.{take-put_mid}
 use borrow.Rule.Slice.PartMut.{put_mid}
 use lib.Seq.{take-add}
-use Rattle.sealing.specs.Covering.{covered_at, covered, sealing_of}
-use Rattle.sealing.specs.Laws.{SealingLaws}
+use Rattle.sealer.specs.Meaning.{LawfulSealer}
+use Rattle.sealing.specs.Schemes.{SchemeMeaning, LawfulScheme}
+use Rattle.sealing.specs.Covering.{covered_at, covered, covered_by, sealing_of, sealer_by}
+use Rattle.sealing.specs.Laws.{CoveringLaws}
 
 module _ (block : ℕ → List ℕ) (size : ℕ) where
   pub covered_long : (plain : List ℕ) → length (covered block size plain) ≡ length plain
@@ -53,27 +55,40 @@ module _ (block : ℕ → List ℕ) (size : ℕ) where
       let c : List ℕ = covered block size plain in
       take-put_mid at k out row n (omega arith) fits ∙ rw front (ap (λ l. take at c ++ l) is) ∙ sym (take-add at m c) ∙ ap (λ j. take j c) (sym end)
 
-module _ (block : ℕ → List ℕ) (size : ℕ) (tag : List ℕ → List ℕ) (extra : ℕ) (tagged : (c : List ℕ) → length (tag c) ≡ extra) where
-  pub sealing_long : (plain : List ℕ) → length (sealing_of block size tag plain) ≡ length plain + extra
+module _ (m : SchemeMeaning) (key heading : List ℕ) (tagged : (c : List ℕ) → length (m.tag key heading c) ≡ m.extra) where
+  pub sealing_long : (plain : List ℕ) → length (sealing_of m key heading plain) ≡ length plain + m.extra
   unfolding sealing_of
   sealing_long plain =
-      let c : List ℕ = covered block size plain in
-      length-append c (tag c) ∙ omega (arith, covered_long block size plain, tagged c)
+      let c : List ℕ = covered_by m key plain in
+      length-append c (m.tag key heading c) ∙ omega (arith, covered_long (m.block key) m.size plain, tagged c)
 
   -- the two parts of a sealing
-  pub sealing_parts : (plain bytes end : List ℕ) → length end ≡ extra → sealing_of block size tag plain ≡ bytes ++ end → (bytes ≡ covered block size plain) × (end ≡ tag (covered block size plain))
+  pub sealing_parts : (plain bytes end : List ℕ) → length end ≡ m.extra → sealing_of m key heading plain ≡ bytes ++ end → (bytes ≡ covered_by m key plain) × (end ≡ m.tag key heading (covered_by m key plain))
   unfolding sealing_of
   sealing_parts plain bytes end long e =
-      let c : List ℕ = covered block size plain in
+      let c : List ℕ = covered_by m key plain in
       let n : ℕ = length bytes in
-      let same : length c ≡ n = omega (arith, ap length e, length-append c (tag c), length-append bytes end, tagged c) in
-      (sym (take_at bytes end n refl) ∙ ap (take n) (sym e) ∙ take_at c (tag c) n same, sym (drop_at bytes end n refl) ∙ ap (drop n) (sym e) ∙ drop_at c (tag c) n same)
+      let t : List ℕ = m.tag key heading c in
+      let same : length c ≡ n = omega (arith, ap length e, length-append c t, length-append bytes end, tagged c) in
+      (sym (take_at bytes end n refl) ∙ ap (take n) (sym e) ∙ take_at c t n same, sym (drop_at bytes end n refl) ∙ ap (drop n) (sym e) ∙ drop_at c t n same)
 
-  pub apart : (plain other : List ℕ) → sealing_of block size tag plain ≡ sealing_of block size tag other → plain ≡ other
+  pub apart : (plain other : List ℕ) → sealing_of m key heading plain ≡ sealing_of m key heading other → plain ≡ other
   unfolding sealing_of
   apart plain other e =
-      let c : List ℕ = covered block size other in
-      sym (twice block size plain) ∙ ap (covered block size) (sym (sealing_parts plain c (tag c) (tagged c) e).0) ∙ twice block size other
+      let c : List ℕ = covered_by m key other in
+      sym (twice (m.block key) m.size plain) ∙ ap (covered_by m key) (sym (sealing_parts plain c (m.tag key heading c) (tagged c) e).0) ∙ twice (m.block key) m.size other
 
-pub laws : SealingLaws
+pub laws : CoveringLaws
 laws = record { even = covered_long; twice = twice; long = sealing_long; apart = apart }
+
+-- a sealer by a lawful scheme is lawful
+pub sealer_lawful : (m : SchemeMeaning) (number : ℕ) → LawfulScheme m → number < 256 → LawfulSealer (sealer_by m number)
+sealer_lawful m number l b =
+    record {
+      seals = record {
+        small = l.limited;
+        long = λ key heading plain _ _ _. sealing_long m key heading (l.tagged key heading) plain;
+        apart = λ key heading plain other _ _ _ _ e. apart m key heading (l.tagged key heading) plain other e;
+      };
+      one_byte = b;
+    }

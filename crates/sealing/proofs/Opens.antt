@@ -6,7 +6,8 @@ use Rattle.octets.specs.Buffers.{zeros, filled}
 use Rattle.session.proofs.Rows.{filled_next}
 use Rattle.sealer.specs.Limits.{plain_limit}
 use Rattle.sealer.specs.Outcomes.{PlainOf, NoPlain}
-use Rattle.sealing.specs.Covering.{covered, sealing_of}
+use Rattle.sealing.specs.Schemes.{SchemeMeaning}
+use Rattle.sealing.specs.Covering.{covered, covered_by, sealing_of}
 use Rattle.sealing.proofs.Covers.{covered_long, twice, sealing_long, sealing_parts}
 
 -- what a filled buffer begins with
@@ -19,25 +20,25 @@ covered_zeros block size plain was room e =
     let long : length (covered block size plain) ≡ length plain = covered_long block size plain in
     rw (e, long, drop-replicate {X = ℕ} (length plain) room 0)
 
-module _ (block : ℕ → List ℕ) (size : ℕ) (tag : List ℕ → List ℕ) (extra : ℕ) (tagged : (c : List ℕ) → length (tag c) ≡ extra) (sealed : List ℕ) where
+module _ (m : SchemeMeaning) (key heading : List ℕ) (tagged : (c : List ℕ) → length (m.tag key heading c) ≡ m.extra) (sealed : List ℕ) where
   -- bytes of a length that no sealing has
-  pub no_length : (length sealed < extra) ⊎ (plain_limit < length sealed - extra) → NoPlain (sealing_of block size tag) sealed
-  no_length h plain p = omega (arith, h, ap length p.seals, sealing_long block size tag extra tagged plain, p.short)
+  pub no_length : (length sealed < m.extra) ⊎ (plain_limit < length sealed - m.extra) → NoPlain (sealing_of m key heading) sealed
+  no_length h plain p = omega (arith, h, ap length p.seals, sealing_long m key heading tagged plain, p.short)
 
   -- bytes whose tag is another are no sealing
-  pub other_tag : (bytes end : List ℕ) → sealed ≡ bytes ++ end → length end ≡ extra → (tag bytes ≡ end → ⊥) → NoPlain (sealing_of block size tag) sealed
+  pub other_tag : (bytes end : List ℕ) → sealed ≡ bytes ++ end → length end ≡ m.extra → (m.tag key heading bytes ≡ end → ⊥) → NoPlain (sealing_of m key heading) sealed
   other_tag bytes end parts long differ plain p =
-      let q = sealing_parts block size tag extra tagged plain bytes end long (p.seals ∙ parts) in
-      differ (ap tag q.0 ∙ sym q.1)
+      let q = sealing_parts m key heading tagged plain bytes end long (p.seals ∙ parts) in
+      differ (ap (m.tag key heading) q.0 ∙ sym q.1)
 
   -- bytes whose tag is right are the sealing of what they cover
-  pub same_tag : (bytes end : List ℕ) → sealed ≡ bytes ++ end → length bytes ≤ plain_limit → tag bytes ≡ end → PlainOf (sealing_of block size tag) sealed (covered block size bytes)
+  pub same_tag : (bytes end : List ℕ) → sealed ≡ bytes ++ end → length bytes ≤ plain_limit → m.tag key heading bytes ≡ end → PlainOf (sealing_of m key heading) sealed (covered_by m key bytes)
   unfolding sealing_of
   same_tag bytes end parts short same =
-      record { short = omega (arith, covered_long block size bytes); seals = rw (twice block size bytes, same) (sym parts) }
+      record { short = omega (arith, covered_long (m.block key) m.size bytes); seals = rw (twice (m.block key) m.size bytes, same) (sym parts) }
 
 -- a sealing that is written in two parts
-pub sealed_parts : (block : ℕ → List ℕ) (size : ℕ) (tag : List ℕ → List ℕ) (extra : ℕ) (plain end : List ℕ) (room : ℕ) → length end ≡ extra → end ≡ tag (covered block size plain) → length plain + extra ≤ room → paste (filled (covered block size plain) room) (length plain) end extra ≡ filled (sealing_of block size tag plain) room
+pub sealed_parts : (m : SchemeMeaning) (key heading plain end : List ℕ) (extra room : ℕ) → length end ≡ extra → end ≡ m.tag key heading (covered_by m key plain) → length plain + extra ≤ room → paste (filled (covered_by m key plain) room) (length plain) end extra ≡ filled (sealing_of m key heading plain) room
 unfolding sealing_of
-sealed_parts block size tag extra plain end room long is fits =
-    filled_next (covered block size plain) end room (length plain) extra (covered_long block size plain) long fits ∙ rw is
+sealed_parts m key heading plain end extra room long is fits =
+    filled_next (covered_by m key plain) end room (length plain) extra (covered_long (m.block key) m.size plain) long fits ∙ rw is

@@ -8,65 +8,49 @@ ghost use Rattle.std.specs.Prelude.{◌≡◌, ℕ, ◌+◌, ◌<◌, ◌≤◌,
 ghost use Rattle.octets.specs.Buffers.{zeros, filled};
 ghost use Rattle.sealer.specs.Limits.{plain_limit, overhead_limit};
 ghost use Rattle.sealer.specs.Outcomes.{Sealed, Opened};
-ghost use Rattle.sealing.specs.Covering.{covered, sealing_of};
-ghost use Rattle.sealing.specs.Laws.{SealingLaws};
+ghost use Rattle.sealing.specs.Schemes.{SchemeMeaning, LawfulScheme};
+ghost use Rattle.sealing.specs.Covering.{covered_by, sealing_of};
+ghost use Rattle.sealing.specs.Laws.{CoveringLaws};
 
 use octets::{clear, same_bytes};
 use refusal::Refusal;
-use sealer::{OVERHEAD_LIMIT, PLAIN_LIMIT};
+use sealer::{HEADING, OVERHEAD_LIMIT, PLAIN_LIMIT};
 
 /// A keystream and a tag.
 pub trait Scheme {
-    /// the keystream's blocks, by key and place
-    ghost block: { Self → List ℕ → ℕ → List ℕ };
-
-    /// the bytes of a block
-    ghost size: { Self → ℕ };
-
-    /// the tag, by key, heading and covered plain
-    ghost tag: { Self → List ℕ → List ℕ → List ℕ → List ℕ };
-
-    /// the bytes of a tag
-    ghost extra: { Self → ℕ };
+    /// which keystream and which tag it is
+    ghost meaning: { Self → SchemeMeaning };
 
     /// The bytes of a block.
     fn size(&self) -> usize
-        ensures { result ≡ size self.now };
+        ensures { result ≡ (meaning self.now).size };
 
     /// The bytes of a tag.
     fn extra(&self) -> usize
-        ensures { result ≡ extra self.now };
+        ensures { result ≡ (meaning self.now).extra };
 
     /// Writes a block of the keystream to the start of the pad, with zeros after it.
     fn block(&self, key: &[u8; 32], index: u32, pad: &mut [u8; 64])
-        ensures { pad.new ≡ filled (block self.now key.now index) 64 };
+        ensures { pad.new ≡ filled ((meaning self.now).block key.now index) 64 };
 
     /// Writes the tag of a heading and a covered plain to the start of a row, with zeros after it. The pad holds zeros
     /// afterwards.
     fn tag(
         &self,
         key: &[u8; 32],
-        heading: &[u8; 20],
+        heading: &[u8; HEADING],
         bytes: &[u8],
-        out: &mut [u8; 32],
+        out: &mut [u8; OVERHEAD_LIMIT],
         pad: &mut [u8; 64],
     )
-        ensures tagged { out.new ≡ filled (tag self.now key.now heading.now bytes.now) 32 }
+        ensures tagged { out.new ≡ filled ((meaning self.now).tag key.now heading.now bytes.now) overhead_limit }
         ensures wiped { pad.new ≡ zeros 64 };
 
-    ghost some: { (s : Self) → 0 < size s };
-
-    ghost held: { (s : Self) → size s ≤ 64 };
-
-    ghost limited: { (s : Self) → extra s ≤ overhead_limit };
-
-    ghost whole: { (s : Self) (key : List ℕ) (index : ℕ) → length (block s key index) ≡ size s };
-
-    ghost tagged: { (s : Self) (key heading bytes : List ℕ) → length (tag s key heading bytes) ≡ extra s };
+    ghost lawful: { (s : Self) → LawfulScheme (meaning s) };
 }
 
 // Writes the XOR of a part of the plain and a block's first bytes.
-// The bytes written have an index and no zip: a proof knows nothing of what a loop writes through a zip.
+// By an index: over `out.iter_mut().zip(part.iter().zip(block))` an invariant has only the iterators and cannot name `out`.
 fn lay(part: &[u8], block: &[u8; 64], out: &mut [u8])
     requires { (length part.now ≤ 64) × (length out.old ≡ length part.now) }
     ensures { EachIndex out.new (λ k. slice_index out.new k ≡ bit_xor (slice_index part.now k) (slice_index block.now k)) }
@@ -76,10 +60,10 @@ fn lay(part: &[u8], block: &[u8; 64], out: &mut [u8])
     }
 }
 
-// Writes the covered plain to the buffer's start. The pad is left with a block of the keystream.
+// Writes the covered plain to the buffer's start, by places as in `lay`. The pad is left with a block of the keystream.
 fn cover<S: Scheme>(scheme: &S, key: &[u8; 32], plain: &[u8], out: &mut [u8], pad: &mut [u8; 64])
     requires { (length plain.now ≤ plain_limit) × (length plain.now ≤ length out.old) }
-    ensures { out.new ≡ covered (S.Scheme.block scheme.now key.now) (S.Scheme.size scheme.now) plain.now ++ drop (length plain.now) out.old }
+    ensures { out.new ≡ covered_by (S.meaning scheme.now) key.now plain.now ++ drop (length plain.now) out.old }
 {
     let size = scheme.size();
     for (index, part) in plain.chunks(size).enumerate() {
@@ -103,12 +87,12 @@ fn clear_both(out: &mut [u8], pad: &mut [u8; 64])
 pub fn seal<S: Scheme>(
     scheme: &S,
     key: &[u8; 32],
-    heading: &[u8; 20],
+    heading: &[u8; HEADING],
     plain: &[u8],
     out: &mut [u8],
     pad: &mut [u8; 64],
 ) -> Result<usize, Refusal>
-    ensures sealed { Sealed (sealing_of (S.Scheme.block scheme.now key.now) (S.Scheme.size scheme.now) (S.Scheme.tag scheme.now key.now heading.now)) (S.Scheme.extra scheme.now) plain.now (length out.old) result out.new }
+    ensures sealed { Sealed (sealing_of (S.meaning scheme.now) key.now heading.now) (S.meaning scheme.now).extra plain.now (length out.old) result out.new }
     ensures wiped { pad.new ≡ zeros 64 }
 {
     clear_both(out, pad);
@@ -128,12 +112,12 @@ pub fn seal<S: Scheme>(
 pub fn open<S: Scheme>(
     scheme: &S,
     key: &[u8; 32],
-    heading: &[u8; 20],
+    heading: &[u8; HEADING],
     sealed: &[u8],
     out: &mut [u8],
     pad: &mut [u8; 64],
 ) -> Result<Option<usize>, Refusal>
-    ensures opened { Opened (sealing_of (S.Scheme.block scheme.now key.now) (S.Scheme.size scheme.now) (S.Scheme.tag scheme.now key.now heading.now)) sealed.now (length out.old) result out.new }
+    ensures opened { Opened (sealing_of (S.meaning scheme.now) key.now heading.now) sealed.now (length out.old) result out.new }
     ensures wiped { pad.new ≡ zeros 64 }
 {
     clear_both(out, pad);
@@ -159,6 +143,7 @@ pub fn open<S: Scheme>(
 }
 
 /// How long a sealing is, and that sealings of different plains differ, for every keystream and tag.
+#[tactic(auto, using(crate::proofs::Covers::laws))]
 pub fn sealings_stand()
-    ensures { SealingLaws }
+    ensures { CoveringLaws }
 {}

@@ -1,13 +1,12 @@
 -- A slot that is changed within its sector, and the sector put back whole.
-use Rattle.std.proofs.Common.{◌≡◌, ℕ, ◌+◌, ◌*◌, ◌/◌, ◌%◌, ◌<◌, ◌≤◌, List, ◌++◌, length, take, drop, Ok, sym, ap, ◌∙◌, append_assoc, div-mul-le_self, arith, take-add}
+use Rattle.std.proofs.Common.{◌≡◌, ℕ, ◌+◌, ◌*◌, ◌/◌, ◌%◌, ◌<◌, ◌≤◌, List, ◌++◌, Option, length, take, drop, Ok, refl, sym, ap, ◌∙◌, append_assoc, div-mul-le_self, arith, take-add}
 use lib.Seq.{paste, length-paste}
 use borrow.Rule.Slice.PartMut.{put_mid}
 use Rattle.std.proofs.lemmas.List.{drop-drop, take-take, take_all, take-append-drop, drop-append-le, length-take, length-drop}
+use Rattle.std.proofs.lemmas.Slice.{put_mid-paste}
 use Rattle.device.specs.Effects.{Slot, Tearing, slot_size}
-use Rattle.medium.specs.declared.Stroke.{Stroke}
-use Rattle.medium.specs.State.{State, placed}
-use Rattle.medium.specs.Appointed.{Counting, partly}
-use Rattle.medium.proofs.Rows.{put_whole}
+use Rattle.medium.specs.Rows.{Row, state_by, placed}
+use Rattle.medium.specs.Appointed.{answer_of, Counting, partly, standing_in}
 use Rattle.medium.proofs.Meanings.{tears}
 use Rattle.sectors.specs.Sectors.{sector_size, sector_slots, slots_by_sector}
 
@@ -32,13 +31,13 @@ within w s at m row b h f l =
     left ∙ same ∙ sym right
 
 -- a sector that is read, changed in one slot and put back: that slot's bytes are in place
-pub stored : (d d' : State) (i k w : ℕ) (b x old : List ℕ) → d' ≡ placed (i / sector_slots * sector_slots) (put_mid (i % sector_slots * slot_size) k old x) d → x ≡ b → old ≡ take w (drop (i / sector_slots * sector_slots * slot_size) d.row) → w ≡ sector_size → k ≡ length b → i < length d.row / sector_size * sector_slots → length b ≤ slot_size → d' ≡ placed i b d
+pub stored : (d d' : Row) (i k w : ℕ) (b x old : List ℕ) → d' ≡ placed (i / sector_slots * sector_slots) (put_mid (i % sector_slots * slot_size) k old x) d → x ≡ b → old ≡ take w (drop (i / sector_slots * sector_slots * slot_size) d.row) → w ≡ sector_size → k ≡ length b → i < length d.row / sector_size * sector_slots → length b ≤ slot_size → d' ≡ placed i b d
 stored d d' i k w b x old p q o e f h l =
     let s : ℕ = i / sector_slots * sector_slots * slot_size in
     let at : ℕ = i % sector_slots * slot_size in
     let new : List ℕ = put_mid at k old x in
     let read : old ≡ take sector_size (drop s d.row) = o ∙ ap (λ y. take y (drop s d.row)) e in
-    let changed : new ≡ paste old at b (length b) = ap (put_mid at k old) q ∙ put_whole at k old b f in
+    let changed : new ≡ paste old at b (length b) = put_mid-paste at k old x b (length b) q (sym f) refl in
     let long : length old ≡ sector_size = ap length read ∙ simp (length-take, length-drop) (omega arith) in
     let longer : length new ≡ sector_size = ap length changed ∙ length-paste old at b (length b) (omega arith) (omega arith) ∙ long in
     let row : paste d.row s new (length new) ≡ paste d.row (i * slot_size) b (length b) =
@@ -46,7 +45,7 @@ stored d d' i k w b x old p q o e f h l =
     ∙ ap (λ y. paste d.row s y sector_size) (changed ∙ ap (λ y. paste y at b (length b)) read)
     ∙ within sector_size s at (length b) d.row b (omega arith) (omega arith) (omega arith)
     ∙ ap (λ y. paste d.row y b (length b)) (omega arith) in
-    p ∙ ap (λ y. record { row = y; power = d.power; cut = d.cut }) row
+    p ∙ ap (λ y. record d { row = y }) row
 
-pub writes : (d : State) (i : ℕ) (b : Slot) (n k : ℕ) (s : Stroke) (u d' : State) → Counting n d i (Ok s) u → d' ≡ placed i (take k b) u → n ≡ length (slots_by_sector d.row) → k ≡ partly s.standing → length b ≡ slot_size → Tearing (slots_by_sector d.row) d.power i b s.answer (slots_by_sector d'.row) d'.power
+pub writes : (d : Row) (i : ℕ) (b : Slot) (n k : ℕ) (o : Option ℕ) (u d' : Row) → Counting n d i (Ok o) u → d' ≡ placed i (take k b) u → n ≡ length (slots_by_sector d.row) → k ≡ standing_in partly o → length b ≡ slot_size → Tearing (state_by slots_by_sector d) i b (answer_of o) (state_by slots_by_sector d')
 writes = tears (λ l. l / sector_size * sector_slots) room

@@ -2,16 +2,16 @@
 //! appointment.
 #![tactic(auto)]
 
-ghost use Rattle.std.specs.Prelude.{◌≡◌, ◌*◌, ◌+◌, ◌/◌, ◌%◌, ◌<◌, ◌≤◌, length, replicate, refl};
-ghost use Rattle.std.proofs.Math.Seq.{paste};
+ghost use Rattle.std.specs.Prelude.{◌≡◌, ◌*◌, ◌/◌, ◌<◌, ◌≤◌, length, replicate, refl};
 ghost use Rattle.device.specs.Effects.{Tearing, Restarting, slot_size};
-ghost use Rattle.medium.specs.State.{fresh, placed};
+ghost use Rattle.medium.specs.Rows.{Row, state_by, fresh, placed};
 ghost use Rattle.medium.specs.Appointed.{appointed, Struck, Restarted, partly};
 ghost use Rattle.medium.proofs.Rows.{sized_parts};
 ghost use Rattle.sectors.specs.Sectors.{slots_by_sector, sector_size, sector_slots};
 
 use device::{DeviceFault, ReadSlots, SLOT_SIZE, TearSlots};
-use medium::Bottom;
+use medium::{Bottom, Cut, answer};
+use std::marker::Model;
 
 /// The bytes of a sector.
 pub const SECTOR_SIZE: usize = 512;
@@ -27,11 +27,18 @@ pub struct SectorImage<'a> {
     sector: [u8; SECTOR_SIZE],
 }
 
+impl<'a> Model for SectorImage<'a> {
+    ghost Value = { Row };
+
+    ghost view = { λ a. a.base };
+
+    ghost invariant = { λ a. a.sector ≡ replicate sector_size 0 };
+}
+
 impl<'a> SectorImage<'a> {
     /// An image over a lent row, with its power on and no cut appointed.
     pub fn new(row: &'a mut [u8]) -> SectorImage<'a>
-        ensures state { result.base ≡ fresh row.old }
-        ensures blank { result.sector ≡ replicate sector_size 0 }
+        ensures { result ≡ fresh row.old }
     {
         SectorImage {
             base: Bottom::new(row),
@@ -39,21 +46,19 @@ impl<'a> SectorImage<'a> {
         }
     }
 
-    /// Appoints a cut, in the place of an earlier appointment: `after` more writes are done, and the next one is cut, with the first
-    /// `standing` bytes of its slot new, or all where that is more.
-    pub fn appoint(&mut self, after: usize, standing: usize)
-        ensures state { self.new.base ≡ appointed after standing self.old.base }
-        ensures same { self.new.sector ≡ self.old.sector }
+    /// Appoints a cut, in the place of an earlier appointment. The write that is cut leaves as many bytes of its slot new as are to
+    /// stand, or all where that is more.
+    pub fn appoint(&mut self, cut: Cut)
+        ensures { self.new ≡ appointed cut self.old }
     {
-        self.base.appoint(after, standing);
+        self.base.appoint(cut);
     }
 
     // Puts the first bytes of a slot in place, by way of its whole sector.
     #[tactic(auto, using(crate::proofs::Sectors::stored))]
     fn store(&mut self, index: usize, bytes: &[u8])
-        requires { (index < length self.old.base.row / sector_size * sector_slots) × (length bytes.now ≤ slot_size) }
-        ensures put { self.new.base ≡ placed index bytes.now self.old.base }
-        ensures wiped { self.new.sector ≡ replicate sector_size 0 }
+        requires { (index < length self.old.row / sector_size * sector_slots) × (length bytes.now ≤ slot_size) }
+        ensures { self.new ≡ placed index bytes.now self.old }
     {
         let first = index / SECTOR_SLOTS * SECTOR_SLOTS;
         let at = index % SECTOR_SLOTS * SLOT_SIZE;
@@ -65,41 +70,37 @@ impl<'a> SectorImage<'a> {
 }
 
 impl<'a> ReadSlots for SectorImage<'a> {
-    ghost slots = { λ s. slots_by_sector s.base.row };
+    ghost state = { state_by slots_by_sector };
 
-    ghost powered = { λ s. s.base.power };
-
-    ghost sized = { λ s k h. sized_parts sector_size sector_slots s.base.row refl k h };
+    ghost sized = { λ s k h. sized_parts sector_size sector_slots s.row refl k h };
 
     #[tactic(auto, using(medium::proofs::Rows::many))]
     fn count(&self) -> usize {
-        self.base.len() / SECTOR_SIZE * SECTOR_SLOTS
+        self.base.size() / SECTOR_SIZE * SECTOR_SLOTS
     }
 
     #[tactic(auto, using(medium::proofs::Rows::slots))]
-    fn read(&self, index: usize, out: &mut [u8; 64]) -> Result<(), DeviceFault> {
+    fn read(&self, index: usize, out: &mut [u8; SLOT_SIZE]) -> Result<(), DeviceFault> {
         self.base.read(self.count(), index, out)
     }
 }
 
 impl<'a> TearSlots for SectorImage<'a> {
     #[tactic(auto, using(medium::proofs::Rows::many, crate::proofs::Sectors::writes))]
-    fn write(&mut self, index: usize, bytes: &[u8; 64]) -> Result<(), DeviceFault>
-        ensures meaning { Tearing (slots_by_sector self.old.base.row) self.old.base.power index bytes.now result (slots_by_sector self.new.base.row) self.new.base.power }
-        ensures exact { Struck partly slots_by_sector self.old.base index bytes.now result self.new.base }
-        ensures wiped { self.old.sector ≡ replicate sector_size 0 → self.new.sector ≡ replicate sector_size 0 }
+    fn write(&mut self, index: usize, bytes: &[u8; SLOT_SIZE]) -> Result<(), DeviceFault>
+        ensures meaning { Tearing (state_by slots_by_sector self.old) index bytes.now result (state_by slots_by_sector self.new) }
+        ensures exact { Struck partly slots_by_sector self.old index bytes.now result self.new }
     {
         let many = self.count();
-        let stroke = self.base.strike(many, index)?;
-        let kept = stroke.standing.min(SLOT_SIZE);
+        let cut = self.base.begin_write(many, index)?;
+        let kept = cut.unwrap_or(SLOT_SIZE).min(SLOT_SIZE);
         self.store(index, &bytes[..kept]);
-        stroke.answer
+        answer(cut)
     }
 
     fn restart(&mut self) -> Result<(), DeviceFault>
-        ensures meaning { Restarting (slots_by_sector self.old.base.row) result (slots_by_sector self.new.base.row) self.new.base.power }
-        ensures exact { Restarted self.old.base result self.new.base }
-        ensures same { self.new.sector ≡ self.old.sector }
+        ensures meaning { Restarting (state_by slots_by_sector self.old) result (state_by slots_by_sector self.new) }
+        ensures exact { Restarted self.old result self.new }
     {
         self.base.restart()
     }

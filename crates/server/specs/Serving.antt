@@ -1,6 +1,6 @@
 -- What the calls of a server promise: what they do (crate rules), what they hand back, and that a past goes on.
 use Rattle.std.specs.Prelude.{◌≡◌, ℕ, Bool, true, false, List, Ok, Err, Result}
-use Rattle.device.specs.Effects.{Slots}
+use Rattle.device.specs.Effects.{State}
 use Rattle.fault.specs.declared.Call.{Call}
 use Rattle.fault.specs.declared.Call.TheVariants.{Make, Issue, Redeem, Reopen}
 use Rattle.fault.specs.declared.Halt.{Halt}
@@ -9,7 +9,7 @@ use Rattle.fault.specs.Faults.{fault_of}
 use Rattle.tree.specs.Nodes.{tree_levels}
 use Rattle.rules.specs.Kits.{Kit, Lawful}
 use Rattle.rules.specs.Calls.{Outcome, Making, Issuing, Redeeming, Reopening}
-use Rattle.rules.specs.Books.{Book, fresh_book, issue, redeem, close, reopen, fed}
+use Rattle.rules.specs.Books.{Book, Deed, fresh_book, issue, redeem, close, reopen, fed}
 use Rattle.rules.specs.Pasts.{Mode, running, cold, is_no_power, wants_power, Past}
 use Rattle.law.specs.Law.{Law}
 use Rattle.server.specs.declared.Cold.{Cold}
@@ -27,17 +27,20 @@ faulted c (Ok a) = Ok a
 faulted c (Err h) = Err (fault_of c h)
 
 -- ---- the calls over the parts of a server: what the rules say, and the fault for what stopped the call
-abbrev pub MakeWithin : Kit → Slots → Bool → List ℕ → List ℕ → Result (Unit {0}) Fault → Slots → Bool → Type 0
-MakeWithin k s on root name a t on' = (r : Result (Unit {0}) Halt) × (a ≡ faulted Make r) × ((headed : Bool) × Making k tree_levels s on root name r t on' headed)
+abbrev pub Within : {A : Type 0} → Call → Result A Fault → (Result A Halt → Type 0) → Type 0
+Within {A = A} c a Did = (r : Result A Halt) × (a ≡ faulted c r) × Did r
 
-abbrev pub ReopenWithin : Kit → Slots → Bool → ℕ → Result (Unit {0}) Fault → Slots → Bool → Type 0
-ReopenWithin k s on marks a t on' = (r : Result (Unit {0}) Halt) × (a ≡ faulted Reopen r) × Reopening k tree_levels s on marks r t on'
+abbrev pub MakeWithin : Kit → State → List ℕ → List ℕ → Result (Unit {0}) Fault → State → Type 0
+MakeWithin k s root name a t = Within Make a (λ r. (headed : Bool) × Making k tree_levels s root name r t headed)
 
-abbrev pub IssueWithin : Kit → Slots → Bool → List ℕ → ℕ → ℕ → Result (ℕ × ℕ) Fault → List ℕ → Slots → Bool → Type 0
-IssueWithin k s on plain room marks a ticket t on' = (r : Outcome) × (a ≡ faulted Issue r) × ((headed : Bool) × Issuing k tree_levels s on plain room marks r ticket t on' headed)
+abbrev pub ReopenWithin : Kit → State → ℕ → Result (Unit {0}) Fault → State → Type 0
+ReopenWithin k s marks a t = Within Reopen a (λ r. Reopening k tree_levels s marks r t)
 
-abbrev pub RedeemWithin : Kit → Slots → Bool → List ℕ → ℕ → ℕ → Result (ℕ × ℕ) Fault → List ℕ → Slots → Bool → Type 0
-RedeemWithin k s on ticket room marks a state t on' = (r : Outcome) × (a ≡ faulted Redeem r) × ((joined : Bool) × Redeeming k tree_levels s on ticket room marks r state t on' joined)
+abbrev pub IssueWithin : Kit → State → List ℕ → ℕ → ℕ → Result (ℕ × ℕ) Fault → List ℕ → State → Type 0
+IssueWithin k s plain room marks a ticket t = Within Issue a (λ r. (headed : Bool) × Issuing k tree_levels s plain room marks r ticket t headed)
+
+abbrev pub RedeemWithin : Kit → State → List ℕ → ℕ → ℕ → Result (ℕ × ℕ) Fault → List ℕ → State → Type 0
+RedeemWithin k s ticket room marks a state t = Within Redeem a (λ r. (joined : Bool) × Redeeming k tree_levels s ticket room marks r state t joined)
 
 module _ {D G S : Type 0} where
   -- the parts that an answer hands back, whether the server runs, and the outcome
@@ -93,55 +96,53 @@ module _ {D G S : Type 0} where
   answered_by m (Ok a) = Done m a
   answered_by m (Err f) = refused_by (is_no_power f.refusal) m f
 
-  module _ (slots : D → Slots) (powered : D → Bool) where
-    -- issue: what it does, that a past goes on, and the law over pasts
-    pub record IssueCall (k : Kit) (me : Running D G S) (plain : List ℕ) (room marks : ℕ) (ticket : List ℕ) (r : Answered D G S) : Type 0 where
-      -- whether the head's write stands
-      pub headed : Bool
-      pub did : Issuing k tree_levels (slots me.device) (powered me.device) plain room marks (outcome_in r) ticket (slots (device_of r)) (powered (device_of r)) headed
+  module _ (means : D → State) where
+    -- a call of a running server: what it does, what is handed back, that a past goes on, and the law over pasts. `Did` and `deed`
+    -- are the call's own: of its outcome, of the state after it, and of whether the write stands that counts for it.
+    pub record RunningCall (k : Kit) (c : Call) (Did : Outcome → State → Bool → Type 0) (deed : Outcome → Bool → Deed) (me : Running D G S) (r : Answered D G S) : Type 0 where
+      pub counts : Bool
+      pub did : Did (outcome_in r) (means (device_of r)) counts
       pub same_generator : generator_of r ≡ me.generator
       pub same_sealer : sealer_of r ≡ me.sealer
-      pub fault : FaultOf Issue r
-      pub past : (root name : List ℕ) (b : Book) → Past k tree_levels root name running (slots me.device) (powered me.device) b →
-          Past k tree_levels root name (mode_in r) (slots (device_of r)) (powered (device_of r)) (fed b (issue plain (outcome_in r) ticket headed))
+      pub fault : FaultOf c r
+      pub past : (root name : List ℕ) (b : Book) → Past k tree_levels root name running (means me.device) b →
+          Past k tree_levels root name (mode_in r) (means (device_of r)) (fed b (deed (outcome_in r) counts))
       pub lawful : Lawful k
       pub law : Law
 
-    pub record RedeemCall (k : Kit) (me : Running D G S) (ticket : List ℕ) (room marks : ℕ) (state : List ℕ) (r : Answered D G S) : Type 0 where
-      -- whether the join's write stands
-      pub joined : Bool
-      pub did : Redeeming k tree_levels (slots me.device) (powered me.device) ticket room marks (outcome_in r) state (slots (device_of r)) (powered (device_of r)) joined
-      pub same_generator : generator_of r ≡ me.generator
-      pub same_sealer : sealer_of r ≡ me.sealer
-      pub fault : FaultOf Redeem r
-      pub past : (root name : List ℕ) (b : Book) → Past k tree_levels root name running (slots me.device) (powered me.device) b →
-          Past k tree_levels root name (mode_in r) (slots (device_of r)) (powered (device_of r)) (fed b (redeem ticket (outcome_in r) joined))
-      pub lawful : Lawful k
-      pub law : Law
+    -- issue, for which the head's write counts
+    abbrev pub IssueCall : Kit → Running D G S → List ℕ → ℕ → ℕ → List ℕ → Answered D G S → Type 0
+    IssueCall k me plain room marks ticket r =
+        RunningCall k Issue (λ o t headed. Issuing k tree_levels (means me.device) plain room marks o ticket t headed) (λ o headed. issue plain o ticket headed) me r
+
+    -- redeem, for which the join's write counts
+    abbrev pub RedeemCall : Kit → Running D G S → List ℕ → ℕ → ℕ → List ℕ → Answered D G S → Type 0
+    RedeemCall k me ticket room marks state r =
+        RunningCall k Redeem (λ o t joined. Redeeming k tree_levels (means me.device) ticket room marks o state t joined) (λ o joined. redeem ticket o joined) me r
 
     -- make: where the head's write stands, a past begins with a fresh book
     pub data MakeCall (k : Kit) (me : Cold D G S) (root name : List ℕ) (r : Result (Running D G S) (Cold D G S × Fault)) : Type 0 where
       made : (m : Running D G S) → r ≡ Ok m → m.generator ≡ me.generator → m.sealer ≡ me.sealer →
-          Making k tree_levels (slots me.device) (powered me.device) root name (Ok tt) (slots m.device) (powered m.device) true →
-          Past k tree_levels root name running (slots m.device) (powered m.device) fresh_book → MakeCall k me root name r
+          Making k tree_levels (means me.device) root name (Ok tt) (means m.device) true →
+          Past k tree_levels root name running (means m.device) fresh_book → MakeCall k me root name r
       unmade : (m : Cold D G S) (h : Halt) (headed : Bool) → r ≡ Err (m, fault_of Make h) → m.generator ≡ me.generator → m.sealer ≡ me.sealer →
-          Making k tree_levels (slots me.device) (powered me.device) root name (Err h) (slots m.device) (powered m.device) headed →
-          (headed ≡ true → Past k tree_levels root name cold (slots m.device) (powered m.device) fresh_book) → MakeCall k me root name r
+          Making k tree_levels (means me.device) root name (Err h) (means m.device) headed →
+          (headed ≡ true → Past k tree_levels root name cold (means m.device) fresh_book) → MakeCall k me root name r
 
     pub data ReopenCall (k : Kit) (me : Cold D G S) (marks : ℕ) (r : Result (Running D G S) (Cold D G S × Fault)) : Type 0 where
       reopened : (m : Running D G S) → r ≡ Ok m → m.generator ≡ me.generator → m.sealer ≡ me.sealer →
-          Reopening k tree_levels (slots me.device) (powered me.device) marks (Ok tt) (slots m.device) (powered m.device) →
-          ((root name : List ℕ) (b : Book) → Past k tree_levels root name cold (slots me.device) (powered me.device) b →
-          Past k tree_levels root name running (slots m.device) (powered m.device) (fed b (reopen (Ok tt)))) → ReopenCall k me marks r
+          Reopening k tree_levels (means me.device) marks (Ok tt) (means m.device) →
+          ((root name : List ℕ) (b : Book) → Past k tree_levels root name cold (means me.device) b →
+          Past k tree_levels root name running (means m.device) (fed b (reopen (Ok tt)))) → ReopenCall k me marks r
       unopened : (m : Cold D G S) (h : Halt) → r ≡ Err (m, fault_of Reopen h) → m.generator ≡ me.generator → m.sealer ≡ me.sealer →
-          Reopening k tree_levels (slots me.device) (powered me.device) marks (Err h) (slots m.device) (powered m.device) →
-          ((root name : List ℕ) (b : Book) → Past k tree_levels root name cold (slots me.device) (powered me.device) b →
-          Past k tree_levels root name cold (slots m.device) (powered m.device) (fed b (reopen (Err h)))) → ReopenCall k me marks r
+          Reopening k tree_levels (means me.device) marks (Err h) (means m.device) →
+          ((root name : List ℕ) (b : Book) → Past k tree_levels root name cold (means me.device) b →
+          Past k tree_levels root name cold (means m.device) (fed b (reopen (Err h)))) → ReopenCall k me marks r
 
     -- close: the same parts, and a past goes on
     pub record CloseCall (k : Kit) (me : Running D G S) (r : Cold D G S) : Type 0 where
       pub same_device : r.device ≡ me.device
       pub same_generator : r.generator ≡ me.generator
       pub same_sealer : r.sealer ≡ me.sealer
-      pub past : (root name : List ℕ) (b : Book) → Past k tree_levels root name running (slots me.device) (powered me.device) b →
-          Past k tree_levels root name cold (slots r.device) (powered r.device) (fed b close)
+      pub past : (root name : List ℕ) (b : Book) → Past k tree_levels root name running (means me.device) b →
+          Past k tree_levels root name cold (means r.device) (fed b close)

@@ -15,10 +15,10 @@ mod parts;
 
 use device::WriteSlots;
 use fault::Fault;
-use generator::Generator;
+use generator::{Generator, Value};
 use refusal::Refusal;
 use scratch::Scratch;
-use sealer::Sealer;
+use sealer::{NAME, Sealer};
 
 /// A server that has to be made or reopened first.
 pub struct Cold<D, G, S> {
@@ -36,14 +36,16 @@ pub struct Running<D, G, S> {
 
 /// What issue and redeem answer: a running server with two numbers (the length of what was written, the generator
 /// calls made) or with the fault, or a cold server after want of power.
-// Three cases, not a `Result`: the fault comes with one of two types of server, so its `Err` would hold a second `Result`, and a
-// caller would take two apart to learn what one match tells here.
+// Three cases, not a `Result`: a cold server comes only with want of power, which the type says so. The two numbers stay a pair:
+// they are of two types, and are taken apart where they come.
 pub enum Answered<D, G, S> {
     Done(Running<D, G, S>, (usize, u32)),
     Refused(Running<D, G, S>, Fault),
     Cut(Cold<D, G, S>, Fault),
 }
 
+// `running` and `cold` are the same but for the types: with one type and a mark in it the fields would move in the same way, and
+// every name be longer.
 impl<D, G, S> Cold<D, G, S> {
     // The same parts, running.
     fn running(self) -> Running<D, G, S>
@@ -61,7 +63,8 @@ impl<D, G, S> Cold<D, G, S> {
         }
     }
 
-    // Hands a server back that was to be made or reopened: running, or cold still with the fault.
+    // Hands a server back that was to be made or reopened: running, or cold still with the fault. No `map` with a `map_err`: both
+    // would take the server.
     fn started(self, answer: Result<(), Fault>) -> Result<Running<D, G, S>, (Cold<D, G, S>, Fault)>
         ensures { result ≡ started_by self answer }
     {
@@ -128,11 +131,11 @@ impl<D: WriteSlots, G: Generator, S: Sealer> Cold<D, G, S> {
     /// Makes a tree of a root value under a key name: whatever the device held is gone.
     pub fn make(
         mut self,
-        root: &[u8; 32],
-        name: &[u8; 16],
+        root: &Value,
+        name: &[u8; NAME],
         scratch: &mut Scratch,
     ) -> Result<Running<D, G, S>, (Cold<D, G, S>, Fault)>
-        ensures did { MakeCall D.slots D.powered (kit_of (G.expansion self.generator) (G.code self.generator) (S.sealing self.sealer) (S.overhead self.sealer) (S.number self.sealer)) self root.now name.now result }
+        ensures did { MakeCall D.state (kit_of (G.meaning self.generator) (S.meaning self.sealer)) self root.now name.now result }
         ensures clean { Clean scratch.new }
     {
         let made = parts::make(
@@ -152,7 +155,7 @@ impl<D: WriteSlots, G: Generator, S: Sealer> Cold<D, G, S> {
         marks: &mut [u8],
         scratch: &mut Scratch,
     ) -> Result<Running<D, G, S>, (Cold<D, G, S>, Fault)>
-        ensures did { ReopenCall D.slots D.powered (kit_of (G.expansion self.generator) (G.code self.generator) (S.sealing self.sealer) (S.overhead self.sealer) (S.number self.sealer)) self (length marks.old) result }
+        ensures did { ReopenCall D.state (kit_of (G.meaning self.generator) (S.meaning self.sealer)) self (length marks.old) result }
         ensures marks { marks.new ≡ zeros (length marks.old) }
         ensures clean { Clean scratch.new }
     {
@@ -170,7 +173,7 @@ impl<D: WriteSlots, G: Generator, S: Sealer> Cold<D, G, S> {
 impl<D: WriteSlots, G: Generator, S: Sealer> Running<D, G, S> {
     /// Closes the server; nothing is written.
     pub fn close(self) -> Cold<D, G, S>
-        ensures { CloseCall D.slots D.powered (kit_of (G.expansion self.generator) (G.code self.generator) (S.sealing self.sealer) (S.overhead self.sealer) (S.number self.sealer)) self result }
+        ensures { CloseCall D.state (kit_of (G.meaning self.generator) (S.meaning self.sealer)) self result }
     {
         self.cold()
     }
@@ -183,7 +186,7 @@ impl<D: WriteSlots, G: Generator, S: Sealer> Running<D, G, S> {
         marks: &mut [u8],
         scratch: &mut Scratch,
     ) -> Answered<D, G, S>
-        ensures did { IssueCall D.slots D.powered (kit_of (G.expansion self.generator) (G.code self.generator) (S.sealing self.sealer) (S.overhead self.sealer) (S.number self.sealer)) self «record».now (length ticket.old) (length marks.old) ticket.new result }
+        ensures did { IssueCall D.state (kit_of (G.meaning self.generator) (S.meaning self.sealer)) self «record».now (length ticket.old) (length marks.old) ticket.new result }
         ensures marks { marks.new ≡ zeros (length marks.old) }
         ensures clean { Clean scratch.new }
     {
@@ -207,7 +210,7 @@ impl<D: WriteSlots, G: Generator, S: Sealer> Running<D, G, S> {
         marks: &mut [u8],
         scratch: &mut Scratch,
     ) -> Answered<D, G, S>
-        ensures did { RedeemCall D.slots D.powered (kit_of (G.expansion self.generator) (G.code self.generator) (S.sealing self.sealer) (S.overhead self.sealer) (S.number self.sealer)) self ticket.now (length state.old) (length marks.old) state.new result }
+        ensures did { RedeemCall D.state (kit_of (G.meaning self.generator) (S.meaning self.sealer)) self ticket.now (length state.old) (length marks.old) state.new result }
         ensures marks { marks.new ≡ zeros (length marks.old) }
         ensures clean { Clean scratch.new }
     {

@@ -1,9 +1,6 @@
--- A server's answers taken apart, and the records of its file.
-use Rattle.std.specs.Prelude.{ℕ, Bool, cond, [], length, Option, Some, None, Result, Ok, Err, nat_lt, slice_index_or}
-use Rattle.device.specs.Effects.{Slots}
+-- A server's answers taken apart.
+use Rattle.std.specs.Prelude.{ℕ, Option, Some, None, Result, Ok, Err}
 use Rattle.fault.specs.declared.Fault.{Fault}
-use Rattle.layout.specs.declared.NodeFields.{NodeFields}
-use Rattle.layout.specs.Records.{node_of}
 use Rattle.server.specs.declared.Cold.{Cold}
 use Rattle.server.specs.declared.Running.{Running}
 use Rattle.server.specs.declared.Answered.{Answered}
@@ -25,7 +22,3 @@ module _ {D G S : Type 0} where
   abbrev pub device_in : Result (Running D G S) (Cold D G S) → D
   device_in (Ok m) = m.device
   device_in (Err m) = m.device
-
--- the record that a slot holds, where it can be read and holds one
-abbrev pub record_in : ℕ → Slots → Bool → ℕ → Option NodeFields
-record_in d s on i = cond (nat_lt i (length s)) (cond on (node_of d (slice_index_or s i [])) None) None

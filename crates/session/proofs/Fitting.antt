@@ -1,17 +1,14 @@
 -- The test of a state's fields, and the limit of its lifetime by example.
-use Rattle.std.proofs.Common.{◌≡◌, ℕ, ◌-◌, ◌^◌, ◌<◌, ◌≤◌, Bool, true, false, ltb, List, length, drop, is_ok, Some, None, Err, Decides, Option, refl, ap, ◌∙◌, arith}
+use Rattle.std.proofs.Common.{◌≡◌, ℕ, ◌-◌, ◌^◌, ◌<◌, ◌≤◌, true, List, length, drop, is_ok, Some, Err, Decides, Option, ap, ◌∙◌, arith}
 use Rattle.std.proofs.lemmas.List.{length-drop}
-use Rattle.std.proofs.lemmas.Bool.Decides.{Decides-at}
-use Rattle.std.proofs.lemmas.Bool.{and_parts, and_from, leb-true, le-leb, le-ltb}
 use Rattle.refusal.specs.declared.Refusal.TheVariants.{NotARecord}
-use Rattle.octets.specs.Buffers.{zeros}
+use Rattle.octets.specs.Buffers.{zeros, is_blank}
+use Rattle.octets.proofs.Blank.{zeros_from_blank, blank_from_zeros}
 use Rattle.session.specs.declared.Suite.{Suite}
 use Rattle.session.specs.declared.SessionState.{SessionState}
 use Rattle.session.specs.Limits.{name_limit, most_length}
-use Rattle.octets.specs.Buffers.{is_blank}
 use Rattle.session.specs.Records.{Typed, Fits, fields_fit, encode_of, record_suite, read_under, decode_of, written_of}
 use Rattle.session.specs.Laws.{RecordLaws, LifetimeExamples, lasting}
-use Rattle.session.proofs.Rows.{blank_zeros, zeros_blank}
 use Rattle.session.proofs.Laid.{suite_laid}
 use Rattle.session.proofs.Trip.{parts, back, forth, tells, read_test, record_long, least, most}
 
@@ -20,23 +17,17 @@ unfolding fields_fit
 fields_fit_is s n =
     let rest : length (drop s.name_length s.name) ≡ name_limit - s.name_length = length-drop s.name_length s.name ∙ rw n in (
       (λ e.
-          let p = and_parts _ _ e in
-          let life = and_parts _ _ p.0 in
-          let q = and_parts _ _ p.1 in
+          let blank : is_blank (drop s.name_length s.name) ≡ true = grind (arith, e) in
           record {
-            lived = leb-true _ _ life.0;
-            expires = leb-true _ _ life.1;
-            named = leb-true _ _ q.0;
-            after = blank_zeros (drop s.name_length s.name) q.1 ∙ ap (λ (m : ℕ). zeros m) rest;
+            lived = grind (arith, e);
+            expires = grind (arith, e);
+            named = grind (arith, e);
+            after = zeros_from_blank (drop s.name_length s.name) blank ∙ ap zeros rest;
           }),
       λ f.
-          and_from _ _ (and_from _ _ (le-leb _ _ f.lived) (le-leb _ _ f.expires))
-          (and_from _ _ (le-leb _ _ f.named) (ap is_blank f.after ∙ zeros_blank (name_limit - s.name_length))),
+          let blank : is_blank (drop s.name_length s.name) ≡ true = ap is_blank f.after ∙ blank_from_zeros (name_limit - s.name_length) in
+          grind (arith, f.lived, f.expires, f.named, blank),
     )
-
--- the same of what was found to be the test's answer
-pub fitting : (r : Bool) (s : SessionState) → length s.name ≡ name_limit → r ≡ fields_fit s → Decides r (Fits s)
-fitting r s n is = Decides-at _ _ is (fields_fit_is s n)
 
 pub laws : RecordLaws
 laws = record { back = back; forth = forth; tells = tells; read = read_test; long = record_long; least = least; most = most }
@@ -49,8 +40,7 @@ lasting_fits : (s : SessionState) → Fits s → Fits (lasting 604800 s)
 lasting_fits s f = record { lived = omega arith; expires = omega arith; named = f.named; after = f.after }
 
 none_read : (o : Option Suite) (b : List ℕ) → ((t : Suite) → o ≡ Some t → ⊥) → read_under o b ≡ Err NotARecord
-none_read (Some t) b never = absurd (never t refl)
-none_read None b never = refl
+none_read o b never = grind arith
 
 reading_refused : (s : SessionState) → Typed s → decode_of (encode_of (lasting 604801 s)) ≡ Err NotARecord
 unfolding decode_of
@@ -62,13 +52,12 @@ reading_refused s y =
 writes : (s : SessionState) (room : ℕ) → Typed s → Fits s → most_length ≤ room → is_ok (written_of (lasting 604800 s) room) ≡ true
 unfolding written_of
 writes s room y f h =
-    let roomy : ltb room most_length ≡ false = le-ltb _ _ h in
     let fit : fields_fit (lasting 604800 s) ≡ true = (fields_fit_is (lasting 604800 s) y.name).1 (lasting_fits s f) in
-    rw (roomy, fit)
+    grind (arith, fit)
 
 writing_refused : (s : SessionState) (room : ℕ) → most_length ≤ room → written_of (lasting 604801 s) room ≡ Err NotARecord
 unfolding written_of fields_fit
-writing_refused s room h = let roomy : ltb room most_length ≡ false = le-ltb _ _ h in rw roomy
+writing_refused s room h = grind arith
 
 pub examples : LifetimeExamples
 examples =

@@ -1,34 +1,21 @@
 -- Rows of bytes: the parts of a list one after another, and a buffer that is filled part by part.
-use Rattle.std.proofs.Common.{◌≡◌, ℕ, zero, suc, ◌+◌, ◌-◌, ◌^◌, ◌<◌, ◌≤◌, true, eqb, List, [], ◌∷◌, ◌++◌, length, take, drop, set, sym, refl, ap, ◌∙◌, subst, ⊎_elim, add-one, arith}
+use Rattle.std.proofs.Common.{◌≡◌, ℕ, ◌+◌, ◌-◌, ◌^◌, ◌<◌, ◌≤◌, List, [], ◌∷◌, ◌++◌, length, take, drop, set, refl, ◌∙◌, subst, add-one, arith}
 use lib.Seq.{paste}
 use Rattle.std.proofs.lemmas.Int.Digits.{number_lt}
 use Rattle.std.proofs.ByRecursion.{All-from_get_or}
-use Rattle.std.proofs.lemmas.List.{append-nil, append_assoc, length-append, length-replicate, set_split, take_at, take_all, drop_at, drop-drop, drop-replicate, take-append-drop, get_or-take, get_or-drop, get_or_past, length-take}
-use Rattle.std.proofs.lemmas.Bool.{cases_lt, and_parts, eqb-true}
-use Rattle.octets.specs.Buffers.{zeros, filled, is_blank}
+use Rattle.std.proofs.lemmas.List.{append_assoc, length-append, set_split, take_at, take_all, drop_at, drop-drop, drop-replicate}
+use Rattle.std.proofs.lemmas.Grind.{common_steps}
+use Rattle.octets.specs.Buffers.{zeros, filled}
 use Rattle.octets.specs.Fields.{number_of}
 use Rattle.session.specs.Records.{Bytes}
 
 -- what follows the part that stands at a place
 pub past : (k m : ℕ) (b x r : List ℕ) → drop k b ≡ x ++ r → length x ≡ m → drop (k + m) b ≡ r
-past k m b x r e l = sym (drop-drop m k b) ∙ ap (drop m) e ∙ drop_at x r m l
+past k m b x r e l = rw (← drop-drop m k b, e) (drop_at x r m l)
 
 -- the part that stands at a place
 pub field : (k m : ℕ) (b x r : List ℕ) → drop k b ≡ x ++ r → length x ≡ m → take m (drop k b) ≡ x
-field k m b x r e l = ap (take m) e ∙ take_at x r m l
-
--- a part and what follows it
-pub part_rest : (k m : ℕ) (b : List ℕ) → take m (drop k b) ++ drop (k + m) b ≡ drop k b
-part_rest k m b = rw (← drop-drop m k b) (take-append-drop m (drop k b))
-
-pub bytes_drop : (k : ℕ) (b : List ℕ) → Bytes b → Bytes (drop k b)
-bytes_drop k b small j = subst (λ (x : ℕ). x < 256) (sym (get_or-drop k b j 0)) (small (k + j))
-
-pub bytes_take : (n : ℕ) (b : List ℕ) → Bytes b → Bytes (take n b)
-bytes_take n b small j = ⊎_elim
-    (λ (lt : j < n). subst (λ (x : ℕ). x < 256) (sym (get_or-take n b j 0 lt)) (small j))
-    (λ (ge : n ≤ j). subst (λ (x : ℕ). x < 256) (sym (get_or_past (take n b) j 0 (omega (arith, length-take n b)))) (omega arith))
-    (cases_lt j n)
+field k m b x r e l = rw e (take_at x r m l)
 
 -- a number of n bytes is below 256 ^ n
 pub number_below : (n : ℕ) (b : List ℕ) → length b ≡ n → Bytes b → number_of b < 256 ^ n
@@ -37,16 +24,14 @@ number_below n b e small =
     subst (λ (m : ℕ). number_of b < 256 ^ m) e (number_lt 256 b (All-from_get_or (λ d. d < 256) b 0 (λ i h. small i)))
 
 pub length_filled : (p : List ℕ) (n : ℕ) → length p ≤ n → length (filled p n) ≡ n
-length_filled p n h = length-append p (zeros (n - length p)) ∙ omega (arith, length-replicate {A = ℕ} (n - length p) 0)
+length_filled p n h = grind (arith, common_steps)
 
 pub filled_none : (n : ℕ) → zeros n ≡ filled [] n
-filled_none n = let e : n ≡ n - 0 = omega arith in ap (λ (m : ℕ). zeros m) e
+filled_none n = grind arith
 
 -- a buffer that is filled to its end
 pub filled_whole : (xs : List ℕ) (n : ℕ) → length xs ≡ n → filled xs n ≡ xs
-filled_whole xs n e =
-    let none : n - length xs ≡ 0 = omega (arith, e) in
-    rw none (append-nil xs)
+filled_whole xs n e = grind (arith, common_steps)
 
 -- one more part after those that fill a buffer so far
 pub filled_next : (p s : List ℕ) (n at m : ℕ) → length p ≡ at → length s ≡ m → at + m ≤ n → paste (filled p n) at s m ≡ filled (p ++ s) n
@@ -61,16 +46,3 @@ filled_byte p n at x e h =
     let z : List ℕ = filled p n in
     let l : at < length z = omega (arith, length_filled p n (omega arith)) in
     set_split z at x l ∙ rw (← add-one at, ← append_assoc (take at z) (x ∷ []) (drop (at + 1) z)) (filled_next p (x ∷ []) n at 1 e refl h)
-
--- a blank row is a row of zeros, and the other way round
-pub blank_zeros : (xs : List ℕ) → is_blank xs ≡ true → xs ≡ zeros (length xs)
-blank_zeros [] e = refl
-blank_zeros (x ∷ xs) e =
-    let p = and_parts (eqb x 0) (is_blank xs) e in
-    let z : x ≡ 0 = eqb-true x 0 p.0 in
-    let r : xs ≡ zeros (length xs) = blank_zeros xs p.1 in
-    cc
-
-pub zeros_blank : (n : ℕ) → is_blank (zeros n) ≡ true
-zeros_blank zero = refl
-zeros_blank (suc n) = zeros_blank n

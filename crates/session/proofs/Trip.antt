@@ -1,23 +1,21 @@
 -- States and records determine each other.
-use Rattle.std.proofs.Common.{◌≡◌, ℕ, ◌+◌, ◌-◌, ◌^◌, ◌<◌, ◌≤◌, true, List, [], ◌∷◌, ◌++◌, length, get_or, take, drop, is_some, is_ok, IfOk, Some, None, Ok, Err, Decides, Option, Result, sym, refl, ap, ◌∙◌, subst, arith}
-use Rattle.refusal.specs.declared.Refusal.{Refusal}
-use Rattle.std.proofs.lemmas.List.{length-drop, length-take-le, take_at, drop_at, take-append-drop, get_or-drop, drop_more}
+use Rattle.std.proofs.Common.{◌≡◌, ℕ, ◌+◌, ◌-◌, ◌^◌, ◌<◌, ◌≤◌, true, List, [], ◌∷◌, ◌++◌, length, get_or, take, drop, is_some, is_ok, Some, Ok, Decides, Option, sym, refl, ap, ◌∙◌, subst, arith}
+use Rattle.std.proofs.lemmas.List.{length-drop, length-take-le, take_at, drop_at, get_or-drop, drop_more}
+use Rattle.std.proofs.lemmas.Grind.{common_steps}
 use Rattle.octets.specs.Buffers.{zeros, filled}
 use Rattle.octets.specs.Fields.{bytes_of, number_of}
 use Rattle.octets.proofs.Fielded.{length_bytes, number_bytes, bytes_number}
 use Rattle.session.specs.declared.Suite.{Suite}
-use Rattle.session.specs.declared.Suite.TheVariants.{Aes128GcmSha256, Aes256GcmSha384, ChaCha20Poly1305Sha256}
 use Rattle.session.specs.declared.SessionState.{SessionState}
 use Rattle.session.specs.Limits.{secret_length, name_limit, secret_at, name_at, least_length, most_length}
 use Rattle.session.specs.Suites.{suite_number}
 use Rattle.session.specs.Records.{Bytes, Typed, Fits, encode_of, IsRecord, record_suite, is_record, read_of, read_under, decode_of}
-use Rattle.session.proofs.Rows.{past, field, part_rest, bytes_drop, bytes_take, number_below, length_filled}
+use Rattle.octets.proofs.Parts.{part_small, part_rest}
+use Rattle.session.proofs.Rows.{past, field, number_below, length_filled}
 use Rattle.session.proofs.Laid.{Laid, suite_laid, laid_suite, read_some}
 
 suite_small : (t : Suite) → suite_number t < 65536
-suite_small Aes128GcmSha256 = omega arith
-suite_small Aes256GcmSha384 = omega arith
-suite_small ChaCha20Poly1305Sha256 = omega arith
+suite_small t = grind arith
 
 -- the parts of a state's record
 pub record Parts (s : SessionState) (b : List ℕ) : Type 0 where
@@ -60,7 +58,6 @@ parts s t =
     let d5 : drop secret_at b ≡ r5 = past 18 4 b x4 r5 d4 l4 in
     let d6 : drop (name_at s.suite) b ≡ s.name_length ∷ nm = past secret_at (secret_length s.suite) b s.secret (s.name_length ∷ nm) d5 l5 in
     let d7 : drop (name_at s.suite + 1) b ≡ nm = past (name_at s.suite) 1 b (s.name_length ∷ []) nm d6 refl in
-    let n6 : length (drop (name_at s.suite) b) ≡ length (s.name_length ∷ nm) = ap length d6 in
     record {
       suite = ap number_of (field 0 2 b x0 r1 d0 l0) ∙ number_bytes 2 (suite_number s.suite) (omega (arith, suite_small s.suite));
       issued = ap number_of (field 2 8 b x1 r2 d1 l1) ∙ number_bytes 8 s.issued_at t.issued_at;
@@ -68,13 +65,13 @@ parts s t =
       age = ap number_of (field 14 4 b x3 r4 d3 l3) ∙ number_bytes 4 s.age_add t.age_add;
       early = ap number_of (field 18 4 b x4 r5 d4 l4) ∙ number_bytes 4 s.early_data_limit t.early_data_limit;
       secret = field secret_at (secret_length s.suite) b s.secret (s.name_length ∷ nm) d5 l5;
-      count = sym (get_or-drop (name_at s.suite) b 0 0) ∙ ap (λ (x : List ℕ). get_or x 0 0) d6;
+      count = rw (← get_or-drop (name_at s.suite) b 0 0, d6);
       name = d7;
-      long = omega (arith, length-drop (name_at s.suite) b);
+      long = omega (arith, length-drop (name_at s.suite) b, ap length d6);
     }
 
 name_long : (s : SessionState) → Typed s → Fits s → length (take s.name_length s.name) ≡ s.name_length
-name_long s t f = length-take-le s.name_length s.name (omega (arith, t.name, f.named))
+name_long s t f = grind (arith, common_steps, t.name, f.named)
 
 pub record_long : (s : SessionState) → Typed s → Fits s → length (encode_of s) ≡ name_at s.suite + 1 + s.name_length
 record_long s t f = omega (arith, (parts s t).long, name_long s t f)
@@ -92,9 +89,7 @@ state_laid s t f =
     }
 
 name_back : (s : SessionState) → Typed s → Fits s → filled (take s.name_length s.name) name_limit ≡ s.name
-name_back s t f =
-    let e : name_limit - length (take s.name_length s.name) ≡ name_limit - s.name_length = omega (arith, name_long s t f) in
-    rw (e, ← f.after) (take-append-drop s.name_length s.name)
+name_back s t f = grind (arith, common_steps, t.name, f.named, f.after)
 
 pub read_back : (s : SessionState) → Typed s → Fits s → read_of s.suite (encode_of s) ≡ s
 unfolding read_of
@@ -113,7 +108,7 @@ back s t f = rw (suited s t f, read_back s t f)
 module _ (b : List ℕ) (t : Suite) (small : Bytes b) (l : Laid t b) where
   cut : (k m : ℕ) → k + m ≤ least_length → (length (take m (drop k b)) ≡ m) × Bytes (take m (drop k b))
   cut k m h =
-      (length-take-le m (drop k b) (omega (arith, length-drop k b, l.long)), bytes_take m (drop k b) (bytes_drop k b small))
+      (length-take-le m (drop k b) (omega (arith, length-drop k b, l.long)), part_small k m b small)
 
   number_back : (k m : ℕ) → k + m ≤ least_length → bytes_of m (number_of (take m (drop k b))) ≡ take m (drop k b)
   number_back k m h = bytes_number m (take m (drop k b)) (cut k m h).0 (cut k m h).1
@@ -180,16 +175,14 @@ forth b s small e =
     (read_typed b p.0 small l, read_fits b p.0 small l, read_whole b p.0 small l)
 
 test_read : (o : Option Suite) (b : List ℕ) → is_ok (read_under o b) ≡ is_some o
-test_read (Some t) b = refl
-test_read None b = refl
+test_read o b = grind arith
 
 pub read_test : (b : List ℕ) → is_ok (decode_of b) ≡ is_record b
 unfolding decode_of is_record
 read_test b = test_read (record_suite b) b
 
 some_suite : (o : Option Suite) → is_some o ≡ true → (t : Suite) × (o ≡ Some t)
-some_suite (Some t) e = (t, refl)
-some_suite None e = let z : ◌≡◌ {A = ℕ} 0 1 = cc in absurd (omega arith)
+some_suite o e = grind arith
 
 pub test_laid : (b : List ℕ) → is_record b ≡ true → (t : Suite) × Laid t b
 unfolding is_record
@@ -209,16 +202,3 @@ least b e = (test_laid b e).1.long
 
 pub most : (b : List ℕ) → is_record b ≡ true → length b ≤ most_length
 most b e = omega (arith, (test_laid b e).1.whole, (test_laid b e).1.named)
-
--- what reading answers, as its contract has it
-pub read_forth : (b : List ℕ) (r : Result SessionState Refusal) → Bytes b → r ≡ decode_of b → IfOk r (λ s. Typed s × Fits s × (encode_of s ≡ b))
-read_forth b (Ok s) small e = forth b s small (sym e)
-read_forth b (Err x) small e = tt
-
-pub read_again : (b : List ℕ) (r : Result SessionState Refusal) → r ≡ decode_of b → (s : SessionState) → Typed s → Fits s → encode_of s ≡ b → r ≡ Ok s
-read_again b r e s t f is = e ∙ ap decode_of (sym is) ∙ back s t f
-
--- a state whose fields are those that the bytes hold
-pub read_made : (t : Suite) (b : List ℕ) (issued life age early : ℕ) (secret name : List ℕ) (n : ℕ) → issued ≡ number_of (take 8 (drop 2 b)) → life ≡ number_of (take 4 (drop 10 b)) → age ≡ number_of (take 4 (drop 14 b)) → early ≡ number_of (take 4 (drop 18 b)) → secret ≡ take (secret_length t) (drop secret_at b) → name ≡ filled (drop (name_at t + 1) b) name_limit → n ≡ get_or b (name_at t) 0 → ◌≡◌ {A = SessionState} (record { suite = t; issued_at = issued; lifetime = life; age_add = age; early_data_limit = early; secret = secret; name = name; name_length = n }) (read_of t b)
-unfolding read_of
-read_made t b issued life age early secret name n e1 e2 e3 e4 e5 e6 e7 = rw (e1, e2, e3, e4, e5, e6, e7)

@@ -22,16 +22,7 @@ pub record RecordLaws : Type 0 where
 
 -- the state with another lifetime
 abbrev pub lasting : ℕ → SessionState → SessionState
-lasting t s = record {
-  suite = s.suite;
-  issued_at = s.issued_at;
-  lifetime = t;
-  age_add = s.age_add;
-  early_data_limit = s.early_data_limit;
-  secret = s.secret;
-  name = s.name;
-  name_length = s.name_length;
-}
+lasting t s = record s { lifetime = t }
 
 -- a lifetime of seven days passes, and one of a second more is refused, in reading and in writing
 pub record LifetimeExamples : Type 0 where

@@ -21,9 +21,21 @@ name_limit = 32
 abbrev pub lifetime_limit : ℕ
 lifetime_limit = 604800
 
--- where the secret begins: after suite, time of issue, lifetime, age add and early data limit
+-- where the fields begin: the time of issue after the suite, then the lifetime, the age add, the early data limit and the secret
+abbrev pub time_at : ℕ
+time_at = 2
+
+abbrev pub lifetime_at : ℕ
+lifetime_at = time_at + 8
+
+abbrev pub age_add_at : ℕ
+age_add_at = lifetime_at + 4
+
+abbrev pub early_data_at : ℕ
+early_data_at = age_add_at + 4
+
 abbrev pub secret_at : ℕ
-secret_at = 2 + 8 + 4 + 4 + 4
+secret_at = early_data_at + 4
 
 -- where the name's length stands
 abbrev pub name_at : Suite → ℕ

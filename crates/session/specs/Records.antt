@@ -6,7 +6,7 @@ use Rattle.refusal.specs.declared.Refusal.{Refusal}
 use Rattle.refusal.specs.declared.Refusal.TheVariants.{ShortBuffer, NotARecord}
 use Rattle.session.specs.declared.Suite.{Suite}
 use Rattle.session.specs.declared.SessionState.{SessionState}
-use Rattle.session.specs.Limits.{secret_length, name_limit, lifetime_limit, secret_at, name_at, least_length, most_length}
+use Rattle.session.specs.Limits.{secret_length, name_limit, lifetime_limit, time_at, lifetime_at, age_add_at, early_data_at, secret_at, name_at, least_length, most_length}
 use Rattle.session.specs.Suites.{suite_number, suite_of}
 
 -- every number of the list is a byte
@@ -58,7 +58,7 @@ pub record IsRecord (b : List ℕ) : Type 0 where
 unfoldable pub laid_out : Suite → List ℕ → Bool
 laid_out s b =
     nat_lt (name_at s) (length b)
-    && (lifetime_fits (number_of (take 4 (drop 10 b)))
+    && (lifetime_fits (number_of (take 4 (drop lifetime_at b)))
     && (nat_le (slice_index b (name_at s)) name_limit && length b == name_at s + 1 + slice_index b (name_at s)))
 
 -- the suite, where one is given and the bytes are laid out as a record of it
@@ -78,10 +78,10 @@ is_record b = is_some (record_suite b)
 unfoldable pub read_of : Suite → List ℕ → SessionState
 read_of s b = record {
   suite = s;
-  issued_at = number_of (take 8 (drop 2 b));
-  lifetime = number_of (take 4 (drop 10 b));
-  age_add = number_of (take 4 (drop 14 b));
-  early_data_limit = number_of (take 4 (drop 18 b));
+  issued_at = number_of (take 8 (drop time_at b));
+  lifetime = number_of (take 4 (drop lifetime_at b));
+  age_add = number_of (take 4 (drop age_add_at b));
+  early_data_limit = number_of (take 4 (drop early_data_at b));
   secret = take (secret_length s) (drop secret_at b);
   name = filled (drop (name_at s + 1) b) name_limit;
   name_length = slice_index b (name_at s);

@@ -23,8 +23,16 @@ pub const NAME_LIMIT: usize = 32;
 /// The longest lifetime in seconds: seven days.
 pub const LIFETIME_LIMIT: u32 = 604_800;
 
-// Where the secret begins in a record.
-const SECRET_AT: usize = 22;
+// Where the time of issue, the lifetime, the age add, the early data limit and the secret begin in a record.
+const TIME_AT: usize = 2;
+
+const LIFETIME_AT: usize = TIME_AT + 8;
+
+const AGE_ADD_AT: usize = LIFETIME_AT + 4;
+
+const EARLY_DATA_AT: usize = AGE_ADD_AT + 4;
+
+const SECRET_AT: usize = EARLY_DATA_AT + 4;
 
 /// The bytes of the shortest record.
 pub const RECORD_LEAST: usize = SECRET_AT + SECRET_LENGTH + 1;
@@ -122,7 +130,7 @@ fn is_laid_out(suite: Suite, bytes: &[u8]) -> bool
     }
     let name_length = bytes[name_at] as usize;
     name_length <= NAME_LIMIT
-        && lifetime_fits(get(bytes, 10))
+        && lifetime_fits(get(bytes, LIFETIME_AT))
         && bytes.len() == name_at + 1 + name_length
 }
 
@@ -149,6 +157,7 @@ pub fn is_record(bytes: &[u8]) -> bool
 }
 
 // The state in a record of a suite.
+#[tactic(auto, using(crate::proofs::Laid::long_laid), unfolding(crate::specs::Records::read_of))]
 fn state_of(suite: Suite, bytes: &[u8]) -> SessionState
     requires { record_suite bytes.now ≡ Some suite }
     ensures { result ≡ read_of suite bytes.now }
@@ -158,10 +167,10 @@ fn state_of(suite: Suite, bytes: &[u8]) -> SessionState
     let name = &bytes[name_at + 1..];
     let mut state = SessionState {
         suite,
-        issued_at: get(bytes, 2),
-        lifetime: get(bytes, 10),
-        age_add: get(bytes, 14),
-        early_data_limit: get(bytes, 18),
+        issued_at: get(bytes, TIME_AT),
+        lifetime: get(bytes, LIFETIME_AT),
+        age_add: get(bytes, AGE_ADD_AT),
+        early_data_limit: get(bytes, EARLY_DATA_AT),
         secret: [0; SECRET_LENGTH],
         name: [0; NAME_LIMIT],
         name_length: bytes[name_at],
@@ -172,6 +181,7 @@ fn state_of(suite: Suite, bytes: &[u8]) -> SessionState
 }
 
 /// The state that a record holds. All other bytes are refused.
+// No TryFrom: it is the other way of `write`, and where TryFrom has one member for its promise this has three clauses.
 #[tactic(auto, using(crate::proofs::Trip::suited), unfolding(crate::specs::Records::decode_of))]
 pub fn read(bytes: &[u8]) -> Result<SessionState, Refusal>
     ensures value { result ≡ decode_of bytes.now }
@@ -209,10 +219,10 @@ impl SessionState {
             return Err(Refusal::NotARecord);
         }
         put(out, 0, u16::from(self.suite));
-        put(out, 2, self.issued_at);
-        put(out, 10, self.lifetime);
-        put(out, 14, self.age_add);
-        put(out, 18, self.early_data_limit);
+        put(out, TIME_AT, self.issued_at);
+        put(out, LIFETIME_AT, self.lifetime);
+        put(out, AGE_ADD_AT, self.age_add);
+        put(out, EARLY_DATA_AT, self.early_data_limit);
         put_part(out, SECRET_AT, &self.secret);
         let name_at = SECRET_AT + self.suite.secret_length();
         out[name_at] = self.name_length;

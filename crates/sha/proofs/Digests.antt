@@ -4,16 +4,13 @@ use Rattle.std.specs.List.{flat_map, AllByRecursion as All}
 use Rattle.std.proofs.ByRecursion.{All-append}
 use Rattle.std.proofs.lemmas.List.FromFn.{length-map-range_with_len}
 use Rattle.std.proofs.lemmas.Simd.{length-zip2}
+use Rattle.sha.specs.Laws.{DigestLaws}
 use Rattle.sha.specs.Digest.{plus, added, round_of, rounds_of, scheduled, compressed, absorbed, start_word, start_words, padded, four_bytes, last_value, sha256}
 
-round_long : (k w : ℕ) (s : List ℕ) → length (round_of k w s) ≡ 8
-unfolding round_of
-round_long k w s = refl
-
 pub rounds_long : (w : List ℕ) (n : ℕ) (s : List ℕ) → length s ≡ 8 → length (rounds_of w n s) ≡ 8
-unfolding rounds_of
+unfolding rounds_of round_of
 rounds_long w zero s e = e
-rounds_long w (suc n) s e = round_long _ _ _
+rounds_long w (suc n) s e = refl
 
 pub compressed_long : (h b : List ℕ) → length h ≡ 8 → length (compressed h b) ≡ 8
 unfolding compressed added
@@ -54,3 +51,6 @@ digest_long m = joined_long (last_value m) ∙ ap (λ n. 4 * n) (last_long m)
 pub digest_bytes : (m : List ℕ) → All (λ b. b < 256) (sha256 m)
 unfolding sha256
 digest_bytes m = joined_bytes (last_value m)
+
+pub digest_laws : DigestLaws
+digest_laws = record { long = digest_long; bytes = digest_bytes }

@@ -10,37 +10,30 @@ use Rattle.std.specs.List.{flat_map}
 use Rattle.std.specs.Simd.{first_chunks}
 use Rattle.sha.proofs.Absorbed.{absorbed_left, absorbed_right}
 
--- the count tells how much of a block is begun
-pub begun : (m s t : List ℕ) (n : ℕ) → Fed m s t n → n % 64 ≡ length m % 64
-begun m s t n f = omega (arith, f.count)
-
 counted : (m p s t : List ℕ) (n : ℕ) → Fed m s t n → (n + length p) % 2 ^ 64 ≡ length (m ++ p) % 2 ^ 64
 counted m p s t n f = omega (arith, f.count, length-append m p)
 
 -- a part that ends no block goes to the tail
-pub kept : (m p s t : List ℕ) (n b k : ℕ) → Fed m s t n → length t ≡ 64 → b ≡ n % 64 → b + length p < 64
+pub kept : (m p s t : List ℕ) (n b k : ℕ) → Fed m s t n → length t ≡ 64 → b ≡ length m % 64 → b + length p < 64
     → Fed (m ++ p) s (put_mid b k t p) ((n + length p) % 2 ^ 64)
 kept m p s t n b k f wide is room =
-    let e : n % 64 ≡ length m % 64 = begun m s t n f in
     let l : length (m ++ p) ≡ length m + length p = length-append m p in
     let q : length (m ++ p) / 64 ≡ length m / 64 = omega arith in
     let r : length (m ++ p) % 64 ≡ b + length p = omega arith in
     let d : 64 * (length m / 64) ≤ length m = omega arith in
     let u : take (length m % 64) t ≡ drop (64 * (length m / 64)) m = f.rest in
-    let i : length m % 64 ≡ b = omega arith in
     record {
       hashed = rw (q, absorbed_left start_words m p (length m / 64) d) f.hashed;
-      rest = rw (q, r, take-put_mid b k t p (b + length p) refl (omega arith), drop-append-le (64 * (length m / 64)) m p d, ← u, i);
+      rest = rw (q, r, take-put_mid b k t p (b + length p) refl (omega arith), drop-append-le (64 * (length m / 64)) m p d, ← u, ← is);
       count = counted m p s t n f;
     }
 
 -- a part that ends the block begun: the tail is compressed
-pub completed : (m p s t : List ℕ) (n k : ℕ) (tail state : List ℕ) → Fed m s t n → 0 < n % 64 → length p ≡ k → n % 64 + k ≡ 64
-    → tail ≡ take (n % 64) t ++ p → state ≡ compressed s tail
+pub completed : (m p s t : List ℕ) (n b k : ℕ) (tail state : List ℕ) → Fed m s t n → b ≡ length m % 64 → 0 < b → length p ≡ k → b + k ≡ 64
+    → tail ≡ take b t ++ p → state ≡ compressed s tail
     → Fed (m ++ p) state tail ((n + k) % 2 ^ 64)
 unfolding absorbed block_at
-completed m p s t n k tail state f some size full is done =
-    let e : n % 64 ≡ length m % 64 = begun m s t n f in
+completed m p s t n b k tail state f e some size full is done =
     let l : length (m ++ p) ≡ length m + length p = length-append m p in
     let q : length (m ++ p) / 64 ≡ suc (length m / 64) = omega arith in
     let r : length (m ++ p) % 64 ≡ 0 = omega arith in
@@ -55,10 +48,9 @@ completed m p s t n k tail state f some size full is done =
     }
 
 -- whole blocks after whole blocks
-pub joined_blocks : (m p s t : List ℕ) (n k : ℕ) (state : List ℕ) → Fed m s t n → n % 64 ≡ 0 → length p ≡ k * 64 → state ≡ absorbed s p k
+pub joined_blocks : (m p s t : List ℕ) (n k : ℕ) (state : List ℕ) → Fed m s t n → length m % 64 ≡ 0 → length p ≡ k * 64 → state ≡ absorbed s p k
     → Fed (m ++ p) state t ((n + length p) % 2 ^ 64)
 joined_blocks m p s t n k state f none full done =
-    let e : n % 64 ≡ length m % 64 = begun m s t n f in
     let l : length (m ++ p) ≡ length m + length p = length-append m p in
     let q : length (m ++ p) / 64 ≡ length m / 64 + k = omega arith in
     let r : length (m ++ p) % 64 ≡ 0 = omega arith in
@@ -78,13 +70,13 @@ three_parts m p n r bs l e front back =
     let rest : r ≡ drop n p = e ∙ take_rest p n in
     append_assoc (m ++ take n p) (flat_map (λ x. x) bs) l ∙ rw (all, rest, append_assoc, take-append-drop) refl
 
--- the padding, in the terms of the slices taken: t counts the bytes of m
-pub padding : (m : List ℕ) (t : ℕ) (bits : List ℕ) → t ≡ length m % 2 ^ 64 → bits ≡ eight_bytes ((t * 8) % 2 ^ 64)
-    → (m ++ take (((119 - t % 64) % 64 + 1) - 0) (set (replicate 64 0) 0 128)) ++ bits ≡ padded m
+-- the padding, in the terms of the slices taken: t counts the bytes of m, and b those of the block begun
+pub padding : (m : List ℕ) (t b : ℕ) (bits : List ℕ) → t ≡ length m % 2 ^ 64 → b ≡ length m % 64 → bits ≡ eight_bytes ((t * 8) % 2 ^ 64)
+    → (m ++ take (((119 - b) % 64 + 1) - 0) (set (replicate 64 0) 0 128)) ++ bits ≡ padded m
 unfolding padded gap
-padding m t bits e is =
-    let g : ((119 - t % 64) % 64 + 1) - 0 ≡ suc ((119 - length m % 64) % 64) = omega arith in
-    let b : (t * 8) % 2 ^ 64 ≡ 8 * length m % 2 ^ 64 = omega arith in
+padding m t b bits e front is =
+    let g : ((119 - b) % 64 + 1) - 0 ≡ suc ((119 - length m % 64) % 64) = omega arith in
+    let all : (t * 8) % 2 ^ 64 ≡ 8 * length m % 2 ^ 64 = omega arith in
     let z : take {A = ℕ} ((119 - length m % 64) % 64) (replicate 63 0) ≡ replicate ((119 - length m % 64) % 64) 0 =
     take-replicate ((119 - length m % 64) % 64) 63 0 (omega arith) in
-    rw (is, g, b, z)
+    rw (is, g, all, z)

@@ -3,4 +3,3 @@ pub mod Chunks
 pub mod Absorbed
 pub mod Digests
 pub mod Feeding
-pub mod Rounds

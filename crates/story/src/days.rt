@@ -1,6 +1,7 @@
 //! The managers that the desk serves, and what happens on its two days.
 use session::SessionState;
 
+// Taken by the remainder: to the check an event's number is any number.
 /// A manager's name, and how long the ticket may be used, in seconds. Manager k is given ticket k.
 pub(crate) const MANAGERS: [(&str, u32); 7] = [
     ("Alder Pensions", 3_600),
@@ -12,11 +13,11 @@ pub(crate) const MANAGERS: [(&str, u32); 7] = [
     ("Hazel Superannuation", 259_200),
 ];
 
-/// The write of a redemption at which the power fails.
-#[derive(Clone, Copy, PartialEq, Eq)]
+/// The write of a redemption at which the power fails, by how many writes come between the new records and it.
+#[derive(Clone, Copy)]
 pub(crate) enum Failing {
-    Join,
-    Erasure,
+    Join = 0,
+    Erasure = 1,
 }
 
 /// What happens at the desk.

@@ -1,16 +1,12 @@
 //! Looks at a file: its head, its chain, its free slots, and what is left in them.
 use crate::desk::{Desk, SLOTS};
 use beds::slot_at;
-use chain::{Found, Survey, count_free, next_free, read_file, read_marking};
+use chain::{Found, Survey, count_free, next_free, read_marking};
 use device::ReadSlots;
-use fault::{Call, Halt};
+use fault::Call;
+use layout::NodeFields;
 use samples::all_are;
-use serving::{PAIR, record_at};
-
-// Reads the file, and the record that covers a number.
-fn read<D: ReadSlots>(device: &D, number: Option<u32>) -> Result<Survey, Halt> {
-    read_file(device, PAIR, number, &mut [0; SLOTS], &mut [0; 64])
-}
+use serving::{PAIR, Records, record_at, survey};
 
 /// Shows the file on a device, with or without the records of its chain.
 pub(crate) fn show_file<D: ReadSlots>(desk: &mut Desk, device: &D, records: bool) {
@@ -32,28 +28,24 @@ pub(crate) fn show_file<D: ReadSlots>(desk: &mut Desk, device: &D, records: bool
     }
 }
 
-// Prints the depth and the first number of the record in a slot, and answers the slot of the next; none where there is no record.
-fn show_record<D: ReadSlots>(desk: &mut Desk, device: &D, slot: u16) -> Option<u16> {
-    let Some(fields) = record_at(device, slot) else {
-        desk.show.print(" (no record)");
-        return None;
-    };
-    print!(desk.show; " ({}, {})", fields.depth, fields.first);
-    Some(fields.next)
+// Prints the depth and the first number of a record.
+fn show_record(desk: &mut Desk, record: Option<NodeFields>) {
+    match record {
+        Some(fields) => print!(desk.show; " ({}, {})", fields.depth, fields.first),
+        None => desk.show.print(" (no record)"),
+    }
 }
 
 // Prints the chain's records in its order, eight to a line.
 fn show_chain<D: ReadSlots>(desk: &mut Desk, device: &D, survey: &Survey) {
     desk.show.print("  chain:");
-    let mut slot = survey.head.first;
-    for k in 0..survey.length {
+    let records = Records::new(device, survey.head.first, survey.length);
+    // beside a range, and no enumerate: tried, and the check asks there that the chain's records are fewer than 2 ^ 64, an induction
+    for (k, (_, record)) in (0..survey.length).zip(records) {
         if k > 0 && k % 8 == 0 {
             desk.show.print("\n        ");
         }
-        let Some(next) = show_record(desk, device, slot) else {
-            break;
-        };
-        slot = next;
+        show_record(desk, record);
     }
     desk.show.println("");
 }
@@ -66,7 +58,7 @@ fn show_left<D: ReadSlots>(desk: &mut Desk, device: &D, marks: &[u8; SLOTS]) {
         if !zero && next_free(marks, index, SLOTS) == Some(index) {
             all_zero = false;
             print!(desk.show; "  free slot {index} still holds");
-            show_record(desk, device, index as u16);
+            show_record(desk, record_at(device, index as u16));
             desk.show.println("");
         }
     }
@@ -75,9 +67,10 @@ fn show_left<D: ReadSlots>(desk: &mut Desk, device: &D, marks: &[u8; SLOTS]) {
     }
 }
 
+// None too where the file cannot be read: that is told, and shows in the output.
 /// The record that covers a number; none for a spent one.
 pub(crate) fn covering<D: ReadSlots>(desk: &mut Desk, device: &D, k: usize) -> Option<Found> {
-    let answer = read(device, Some((k % 65536) as u32));
+    let answer = survey::<SLOTS, _>(device, PAIR, Some((k % 65536) as u32));
     desk.tell(answer.err().map(|halt| halt.during(Call::Reopen)));
     answer.ok()?.found
 }
@@ -86,7 +79,9 @@ pub(crate) fn covering<D: ReadSlots>(desk: &mut Desk, device: &D, k: usize) -> O
 /// cannot be read.
 pub(crate) fn led_to<D: ReadSlots>(device: &D, slot: u16) -> Option<u16> {
     if slot == 0 {
-        read(device, None).ok().map(|survey| survey.head.first)
+        survey::<SLOTS, _>(device, PAIR, None)
+            .ok()
+            .map(|survey| survey.head.first)
     } else {
         record_at(device, slot).map(|fields| fields.next)
     }

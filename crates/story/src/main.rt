@@ -14,10 +14,12 @@ use files::{covering, led_to, show_file};
 use generators::ChaChaGenerator;
 use image::ByteImage;
 use journal::Journal;
+use medium::Cut;
 use octets::same_bytes;
 use samples::{Bytes, KEY_NAME, ROOM, ROOT, add, record_of};
 use server::{Cold, Running};
 use serving::{Held, device_of, opened, split};
+use session::NAME_LIMIT;
 use tree::LEVELS;
 
 // The bytes of the image: the journal's mark and copy, and its slots.
@@ -66,7 +68,10 @@ fn look<'a>(desk: &mut Desk, server: Up<'a>) -> Here<'a> {
 
 // Issues a manager's ticket.
 fn issue<'a>(desk: &mut Desk, server: Up<'a>, k: usize) -> Here<'a> {
-    let record = record_of(&state_of(k));
+    let Some(record) = record_of(&state_of(k)) else {
+        desk.show.expect(false, "a state makes no record");
+        return Ok(server);
+    };
     let mut row = [0; ROOM];
     let (server, answer) = split(server.issue(
         record.part(),
@@ -95,15 +100,11 @@ fn welcome(desk: &mut Desk, k: usize, state: &[u8], calls: u32) {
         return;
     };
     add(&mut desk.given[k % MANAGERS.len()].states, 1);
-    print!(desk.show; "  ticket {k} is redeemed: the state of ");
-    for b in opened.name {
-        if b != 0 {
-            desk.show.print(b as char);
-        }
-    }
-    let own = same_bytes(record_of(&state_of(k)).part(), state);
+    let length = usize::from(opened.name_length).min(NAME_LIMIT);
+    let name = str::from_utf8(&opened.name[..length]).unwrap_or("");
+    let own = record_of(&state_of(k)).is_some_and(|record| same_bytes(record.part(), state));
     println!(desk.show;
-        ", {} bytes, lifetime {} s, generator calls {calls}; the state issued: {own}",
+        "  ticket {k} is redeemed: the state of {name}, {} bytes, lifetime {} s, generator calls {calls}; the state issued: {own}",
         state.len(),
         opened.lifetime
     );
@@ -214,15 +215,13 @@ fn cut<'a>(
         desk.show.expect(false, "a number to be redeemed is spent");
         return reopen(desk, cold_on(device));
     };
-    let done = joint
-        .new
-        .saturating_add((failing == Failing::Erasure) as usize);
+    let done = joint.new.saturating_add(failing as usize);
     let after = RAW_WRITES.saturating_mul(done).saturating_add(TURN);
     println!(desk.show;
         "  the power is to fail after {after} raw writes; bytes of the next one that stand: {standing}"
     );
     let mut image = device.into_below();
-    image.appoint(after, standing);
+    image.appoint(Cut { after, standing });
     let server = reopen(desk, cold_on(Journal::new(image)))?;
     let mut device = device_of(come(desk, server, k));
     let stood = restart(desk, &mut device, &joint);
@@ -255,8 +254,7 @@ fn day<'a>(desk: &mut Desk, server: Here<'a>, events: &[Event]) -> Here<'a> {
 fn first_day(desk: &mut Desk, image: &mut [u8; IMAGE]) {
     desk.show.println("1. The tree is made");
     let made = make(desk, image);
-    let device = device_of(day(desk, made, &FIRST_DAY));
-    let _image = device.into_below();
+    drop(device_of(day(desk, made, &FIRST_DAY)));
     desk.show.println("  the desk is closed");
 }
 
@@ -266,7 +264,6 @@ fn second_day(desk: &mut Desk, image: &mut [u8; IMAGE]) {
     let server = reopen(desk, cold_on(Journal::new(ByteImage::new(image))));
     let device = device_of(day(desk, server, &SECOND_DAY));
     sum_up(desk, &device);
-    let _image = device.into_below();
 }
 
 // Says for every ticket whether the file still covers its number, and how many times its state was given.

@@ -1,17 +1,17 @@
 //! One row that a journal stands on, over one of the images, and what is done with it.
-use crate::rows::{NEW, ROW, WRITTEN, before, laid_out};
+use crate::rows::{NEW, WRITTEN, before, laid_out};
 use beds::{Medium, slot_at};
 use device::{ReadSlots, SLOT_SIZE, TearSlots, WriteSlots};
 use journal::Journal;
 use medium::Cut;
-use samples::all_are;
+use samples::{JOURNAL_ROW, all_are};
 
 #[derive(Clone, Copy)]
 pub(crate) struct Stand {
     medium: Medium,
     // whether an earlier write was left unfinished
     unfinished: bool,
-    row: [u8; ROW],
+    row: [u8; JOURNAL_ROW],
 }
 
 /// What the written slot is found to be.
@@ -46,15 +46,12 @@ fn look<D: ReadSlots>(journal: &D, unfinished: bool) -> Found {
 fn restarted<D: TearSlots + Drop>(mut journal: Journal<D>, unfinished: bool) -> Found {
     let done = journal.restart().is_ok();
     let found = look(&journal, unfinished);
-    let _image = journal.into_below();
     if done { found } else { Found::Wrong }
 }
 
 // Writes the slot, and answers whether it was done.
 fn written<D: TearSlots + Drop>(mut journal: Journal<D>) -> bool {
-    let done = journal.write(WRITTEN, &[NEW; SLOT_SIZE]).is_ok();
-    let _image = journal.into_below();
-    done
+    journal.write(WRITTEN, &[NEW; SLOT_SIZE]).is_ok()
 }
 
 impl Stand {

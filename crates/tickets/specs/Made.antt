@@ -7,6 +7,7 @@ use Rattle.tree.specs.declared.Node.{Node}
 use Rattle.tree.specs.Values.{Expansion}
 use Rattle.generator.specs.Bytes.{value_length}
 use Rattle.generator.specs.Descent.{Descent}
+use Rattle.sealer.specs.Limits.{heading_length}
 use Rattle.sealer.specs.Outcomes.{Sealable}
 use Rattle.samples.specs.declared.Bytes.{Bytes}
 
@@ -22,5 +23,5 @@ KeyFrom g d x v n None = Descent g d x n v None (zeros value_length)
 -- the heading, then the plain as it is sealed under key and heading; declined where the plain is too long
 abbrev pub TicketOf : (List ℕ → List ℕ) → ℕ → List ℕ → List ℕ → Result Bytes Refusal → Type 0
 TicketOf sealing overhead heading plain (Ok t) =
-    Sealable overhead plain sealed_room × (t.length ≡ 20 + (length plain + overhead)) × (t.row ≡ heading ++ filled (sealing plain) sealed_room)
+    Sealable overhead plain sealed_room × (t.length ≡ heading_length + (length plain + overhead)) × (t.row ≡ heading ++ filled (sealing plain) sealed_room)
 TicketOf sealing overhead heading plain (Err e) = (Sealable overhead plain sealed_room → ⊥) × (e ≡ ShortBuffer)

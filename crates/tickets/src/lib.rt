@@ -8,14 +8,11 @@ ghost use Rattle.tickets.specs.Made.{KeyFrom, TicketOf};
 use generator::{Generator, Value, Values, descend};
 use refusal::Refusal;
 use samples::{Bytes, ROOM};
-use sealer::{Sealer, heading};
+use sealer::{HEADING, NAME, Sealer, heading};
 use tree::{LEVELS, Node};
 
 /// The root's node.
 pub const TOP: Node = Node { depth: 0, first: 0 };
-
-/// The bytes of a ticket's heading.
-pub const HEADING: usize = 20;
 
 /// The key of a number, worked out from a node and its value, and the generator calls made; none where the node does not
 /// cover the number.
@@ -25,7 +22,7 @@ pub fn key_from<G: Generator>(
     value: &Value,
     n: u32,
 ) -> Option<(Value, u32)>
-    ensures { KeyFrom (G.expansion generator.now) tree_levels node.now value.now n result }
+    ensures { KeyFrom (G.meaning generator.now).expansion tree_levels node.now value.now n result }
 {
     let mut values = Values::new();
     values.value = *value;
@@ -37,19 +34,16 @@ pub fn key_from<G: Generator>(
 pub fn ticket_of<S: Sealer>(
     sealer: &S,
     key: &[u8; 32],
-    name: &[u8; 16],
+    name: &[u8; NAME],
     n: u32,
     plain: &[u8],
 ) -> Result<Bytes, Refusal>
-    ensures { TicketOf (S.sealing sealer.now key.now (heading_of name.now n)) (S.overhead sealer.now) (heading_of name.now n) plain.now result }
+    ensures { TicketOf ((S.meaning sealer.now).sealing key.now (heading_of name.now n)) (S.meaning sealer.now).overhead (heading_of name.now n) plain.now result }
 {
-    let mut front = [0; HEADING];
-    heading(name, n, &mut front);
-    let mut sealed = [0; ROOM - HEADING];
-    let length = sealer.seal(key, &front, plain, &mut sealed, &mut [0; 64])?;
     let mut row = [0; ROOM];
-    row[..HEADING].copy_from_slice(&front);
-    row[HEADING..].copy_from_slice(&sealed);
+    let (front, rest) = row.split_first_chunk_mut::<HEADING>().unwrap();
+    heading(name, n, front);
+    let length = sealer.seal(key, front, plain, rest, &mut [0; 64])?;
     Ok(Bytes {
         row,
         length: HEADING + length,

@@ -1,4 +1,5 @@
 //! What the four walks start from.
+use sealer::NAME;
 use session::{SECRET_LENGTH, SessionState, Suite};
 use std::array;
 
@@ -7,7 +8,7 @@ use std::array;
 #[derive(Clone, Copy)]
 pub(crate) struct Case {
     root: (u8, u8),
-    pub(crate) name: &'static [u8; 16],
+    pub(crate) name: &'static [u8; NAME],
     pub(crate) number: u32,
     suite: Suite,
     issued_at: u64,

@@ -10,9 +10,9 @@ use generator::Generator;
 use generators::{ChaChaGenerator, ShaGenerator};
 use hmacseal::HmacSealer;
 use samples::{Bytes, ROOM, Show, record_of};
-use sealer::Sealer;
+use sealer::{HEADING, Sealer};
 use std::fmt;
-use tickets::{HEADING, TOP, key_from, ticket_of};
+use tickets::{TOP, key_from, ticket_of};
 
 // Bytes as lower-case hexadecimal digits.
 #[derive(Clone, Copy)]
@@ -54,7 +54,7 @@ fn walk<G: Generator, S: Sealer>(
     sealer: &S,
     case: &Case,
 ) -> anyhow::Result<()> {
-    let record = record_of(&case.state());
+    let record = record_of(&case.state()).context("the state makes no record")?;
     println!(show; "root: {}", Hex(&case.root()));
     let name = case.name;
     println!(show; "key name: {}", Hex(name));

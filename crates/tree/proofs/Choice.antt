@@ -14,7 +14,7 @@ pub record Chosen (d e h p : ℕ) (ns : List ℕ) (x : Node) : Type 0 where
   pub picked : PickedAt d e h p ns x
 
 lone : (d e h p : ℕ) (x : Node) → x ≡ node_at e p → Chosen d e h p [] x
-lone d e h p x q = record { under = subst (λ (y : Node). Under e h p y) (sym q) (under_self e h p); free = λ n i c. i; picked = inl q }
+lone d e h p x q = grind (arith, under_self)
 
 -- a number under (e, p) strikes it
 pub strikes : (d e h p n : ℕ) (ns : List ℕ) → e + h ≡ d → Within h p (n ∷ ns) → Struck d (n ∷ ns) (node_at e p)
@@ -23,34 +23,47 @@ strikes d e h p n ns q w =
     let b = wid d e h q in
     (n, inl refl, (omega arith, omega arith))
 
-from_left : (d e h p n : ℕ) (ns : List ℕ) (x : Node) → e + suc h ≡ d → Within (suc h) p (n ∷ ns) →
-    Chosen d (suc e) h p (below (p + 2 ^ h) (n ∷ ns)) x → Chosen d e (suc h) p (n ∷ ns) x
-from_left d e h p n ns x q w c =
-    let r = range d (suc e) h p x (omega arith) c.under in
+-- one half of the node (e, p): it begins at s, and ks are the numbers under it of those listed
+record Half (e h p s : ℕ) (ns ks : List ℕ) : Type 0 where
+  begins : (s ≡ p) ⊎ (s ≡ p + 2 ^ h)
+  under : (x : Node) → Under (suc e) h s x → Under e (suc h) p x
+  inner : (d : ℕ) (y : Node) → e + suc h ≡ d → Under (suc e) h p y ⊎ Under (suc e) h (p + 2 ^ h) y → first y < s + 2 ^ h → s < first y + 2 ^ (d - depth y) → Under (suc e) h s y
+  holds : (k : ℕ) → In k ns → s ≤ k → k < s + 2 ^ h → In k ks
+  held : (k : ℕ) → In k ks → In k ns
+
+left_half : (e h p : ℕ) (ns : List ℕ) → Half e h p p ns (below (p + 2 ^ h) ns)
+left_half e h p ns =
     record {
-      under = inr (inl c.under);
-      free = λ k i v. c.free k (in_below (p + 2 ^ h) k (n ∷ ns) i (omega arith)) v;
-      picked = elim c.picked [
-        | inl s ↦ inr (node_at e p, inl refl, (ap depth s, inl (ap first s)), strikes d e (suc h) p n ns q w)
-        | inr t ↦ inr (t.0, inr (inl t.1), t.2, (t.3.0, (of_below (p + 2 ^ h) t.3.0 (n ∷ ns) t.3.1).0, t.3.2))
-      ];
+      begins = inl refl;
+      under = λ x u. inr (inl u);
+      inner = λ d y q u l m. elim u [ inl v ↦ v | inr v ↦ let r = range d (suc e) h (p + 2 ^ h) y (omega arith) v in absurd (omega arith) ];
+      holds = λ k i l m. in_below (p + 2 ^ h) k ns i m;
+      held = λ k i. (of_below (p + 2 ^ h) k ns i).0;
     }
 
-right_first : (d e h p : ℕ) (x : Node) → e + suc h ≡ d → x ≡ node_at (suc e) (p + 2 ^ h) → first x ≡ p + 2 ^ (d - depth x)
-right_first d e h p x q s =
-    let w = wid d (suc e) h (omega arith) in
-    subst (λ (y : Node). first y ≡ p + 2 ^ (d - depth y)) (sym s) (omega arith)
-
-from_right : (d e h p n : ℕ) (ns : List ℕ) (x : Node) → e + suc h ≡ d → Within (suc h) p (n ∷ ns) →
-    Chosen d (suc e) h (p + 2 ^ h) (above (p + 2 ^ h) (n ∷ ns)) x → Chosen d e (suc h) p (n ∷ ns) x
-from_right d e h p n ns x q w c =
-    let r = range d (suc e) h (p + 2 ^ h) x (omega arith) c.under in
+right_half : (e h p : ℕ) (ns : List ℕ) → Half e h p (p + 2 ^ h) ns (above (p + 2 ^ h) ns)
+right_half e h p ns =
     record {
-      under = inr (inr c.under);
-      free = λ k i v. c.free k (in_above (p + 2 ^ h) k (n ∷ ns) i (omega arith)) v;
+      begins = inr refl;
+      under = λ x u. inr (inr u);
+      inner = λ d y q u l m. elim u [ inl v ↦ let r = range d (suc e) h p y (omega arith) v in absurd (omega arith) | inr v ↦ v ];
+      holds = λ k i l m. in_above (p + 2 ^ h) k ns i l;
+      held = λ k i. (of_above (p + 2 ^ h) k ns i).0;
+    }
+
+from_half : (d e h p s n : ℕ) (ns ks : List ℕ) (x : Node) → e + suc h ≡ d → Within (suc h) p (n ∷ ns) → Half e h p s (n ∷ ns) ks →
+    Chosen d (suc e) h s ks x → Chosen d e (suc h) p (n ∷ ns) x
+from_half d e h p s n ns ks x q w a c =
+    let r = range d (suc e) h s x (omega arith) c.under in
+    let v = wid d (suc e) h (omega arith) in
+    record {
+      under = a.under x c.under;
+      free = λ k i v. c.free k (a.holds k i (omega arith) (omega arith)) v;
       picked = elim c.picked [
-        | inl s ↦ inr (node_at e p, inl refl, (ap depth s, inr (right_first d e h p x q s)), strikes d e (suc h) p n ns q w)
-        | inr t ↦ inr (t.0, inr (inr t.1), t.2, (t.3.0, (of_above (p + 2 ^ h) t.3.0 (n ∷ ns) t.3.1).0, t.3.2))
+        | inl z ↦
+            let b : (first x ≡ p) ⊎ (first x ≡ p + 2 ^ (d - depth x)) = elim a.begins [ inl i ↦ inl (ap first z ∙ i) | inr i ↦ inr (rw z (i ∙ omega arith)) ] in
+            inr (node_at e p, inl refl, (ap depth z, b), strikes d e (suc h) p n ns q w)
+        | inr t ↦ inr (t.0, a.under t.0 t.1, t.2, (t.3.0, a.held t.3.0 t.3.1, t.3.2))
       ];
     }
 
@@ -61,8 +74,8 @@ to d e zero p (n ∷ ns) x q w i = absurd i
 to d e (suc h) p (n ∷ ns) x q w i =
     let m = p + 2 ^ h in
     elim (in_cases x (cover_at (suc e) h p (below m (n ∷ ns))) (cover_at (suc e) h m (above m (n ∷ ns))) i) [
-      | inl a ↦ from_left d e h p n ns x q w (to d (suc e) h p (below m (n ∷ ns)) x (omega arith) (within_below h p (n ∷ ns) w) a)
-      | inr b ↦ from_right d e h p n ns x q w (to d (suc e) h m (above m (n ∷ ns)) x (omega arith) (within_above h p (n ∷ ns) w) b)
+      | inl a ↦ from_half d e h p p n ns (below m (n ∷ ns)) x q w (left_half e h p (n ∷ ns)) (to d (suc e) h p (below m (n ∷ ns)) x (omega arith) (within_below h p (n ∷ ns) w) a)
+      | inr b ↦ from_half d e h p m n ns (above m (n ∷ ns)) x q w (right_half e h p (n ∷ ns)) (to d (suc e) h m (above m (n ∷ ns)) x (omega arith) (within_above h p (n ∷ ns) w) b)
     ]
 
 -- ---- and back
@@ -81,41 +94,20 @@ child_in d y x l c =
 pub node_eq : (x : Node) (e p : ℕ) → depth x ≡ e → first x ≡ p → x ≡ node_at e p
 node_eq x e p q r = ap₂ node_at q r
 
-down_left : (d e h p n : ℕ) (ns : List ℕ) (x : Node) → e + suc h ≡ d → Under (suc e) h p x →
-    PickedAt d e (suc h) p (n ∷ ns) x → PickedAt d (suc e) h p (below (p + 2 ^ h) (n ∷ ns)) x
-down_left d e h p n ns x q u (inl s) = let r = range d (suc e) h p x (omega arith) u in absurd (omega (arith, ap depth s))
-down_left d e h p n ns x q u (inr (y, inl s, (a, inl b), t)) = inl (node_eq x (suc e) p (a ∙ ap (λ z. suc (depth z)) s) (b ∙ ap first s))
-down_left d e h p n ns x q u (inr (y, inl s, (a, inr b), t)) =
-    let r = range d (suc e) h p x (omega arith) u in
-    let w = wid d (depth x) h (omega (arith, ap depth s)) in
-    absurd (omega (arith, ap first s))
-down_left d e h p n ns x q u (inr (y, inr (inl v), c, t)) =
-    let r = range d (suc e) h p y (omega arith) v in
-    inr (y, v, c, (t.0, in_below (p + 2 ^ h) t.0 (n ∷ ns) t.1 (omega arith), t.2))
-down_left d e h p n ns x q u (inr (y, inr (inr v), c, t)) =
-    let r = range d (suc e) h p x (omega arith) u in
-    let s = range d (suc e) h (p + 2 ^ h) y (omega arith) v in
+down_half : (d e h p s n : ℕ) (ns ks : List ℕ) (x : Node) → e + suc h ≡ d → Half e h p s (n ∷ ns) ks → Under (suc e) h s x →
+    PickedAt d e (suc h) p (n ∷ ns) x → PickedAt d (suc e) h s ks x
+down_half d e h p s n ns ks x q a u (inl z) = let r = range d (suc e) h s x (omega arith) u in absurd (omega (arith, ap depth z))
+down_half d e h p s n ns ks x q a u (inr (y, inl z, c, t)) =
+    let r = range d (suc e) h s x (omega arith) u in
+    let k = c.0 ∙ ap (λ z. suc (depth z)) z in
+    let w = wid d (depth x) h (omega arith) in
+    inl (node_eq x (suc e) s k (omega arith))
+down_half d e h p s n ns ks x q a u (inr (y, inr v, c, t)) =
+    let r = range d (suc e) h s x (omega arith) u in
     let k = child_in d y x (omega arith) c in
-    absurd (omega arith)
-
-down_right : (d e h p n : ℕ) (ns : List ℕ) (x : Node) → e + suc h ≡ d → Under (suc e) h (p + 2 ^ h) x →
-    PickedAt d e (suc h) p (n ∷ ns) x → PickedAt d (suc e) h (p + 2 ^ h) (above (p + 2 ^ h) (n ∷ ns)) x
-down_right d e h p n ns x q u (inl s) = let r = range d (suc e) h (p + 2 ^ h) x (omega arith) u in absurd (omega (arith, ap depth s))
-down_right d e h p n ns x q u (inr (y, inl s, (a, inl b), t)) =
-    let r = range d (suc e) h (p + 2 ^ h) x (omega arith) u in
-    let w = wid d (depth x) h (omega (arith, ap depth s)) in
-    absurd (omega (arith, ap first s))
-down_right d e h p n ns x q u (inr (y, inl s, (a, inr b), t)) =
-    let w = wid d (depth x) h (omega (arith, ap depth s)) in
-    inl (node_eq x (suc e) (p + 2 ^ h) (a ∙ ap (λ z. suc (depth z)) s) (omega (arith, ap first s)))
-down_right d e h p n ns x q u (inr (y, inr (inr v), c, t)) =
-    let r = range d (suc e) h (p + 2 ^ h) y (omega arith) v in
-    inr (y, v, c, (t.0, in_above (p + 2 ^ h) t.0 (n ∷ ns) t.1 (omega arith), t.2))
-down_right d e h p n ns x q u (inr (y, inr (inl v), c, t)) =
-    let r = range d (suc e) h (p + 2 ^ h) x (omega arith) u in
-    let s = range d (suc e) h p y (omega arith) v in
-    let k = child_in d y x (omega arith) c in
-    absurd (omega arith)
+    let o = a.inner d y q v (omega arith) (omega arith) in
+    let g = range d (suc e) h s y (omega arith) o in
+    inr (y, o, c, (t.0, a.holds t.0 t.1 (omega arith) (omega arith), t.2))
 
 pub from : (d e h p : ℕ) (ns : List ℕ) (x : Node) → e + h ≡ d → Within h p ns →
     Under e h p x → Free d ns x → PickedAt d e h p ns x → In x (cover_at e h p ns)
@@ -127,9 +119,9 @@ from d e (suc h) p (n ∷ ns) x q w (inr (inl u)) f k =
     let m = p + 2 ^ h in
     in_left x (cover_at (suc e) h p (below m (n ∷ ns))) (cover_at (suc e) h m (above m (n ∷ ns)))
     (from d (suc e) h p (below m (n ∷ ns)) x (omega arith) (within_below h p (n ∷ ns) w) u
-    (λ j i. f j (of_below m j (n ∷ ns) i).0) (down_left d e h p n ns x q u k))
+    (λ j i. f j (of_below m j (n ∷ ns) i).0) (down_half d e h p p n ns (below m (n ∷ ns)) x q (left_half e h p (n ∷ ns)) u k))
 from d e (suc h) p (n ∷ ns) x q w (inr (inr u)) f k =
     let m = p + 2 ^ h in
     in_right x (cover_at (suc e) h p (below m (n ∷ ns))) (cover_at (suc e) h m (above m (n ∷ ns)))
     (from d (suc e) h m (above m (n ∷ ns)) x (omega arith) (within_above h p (n ∷ ns) w) u
-    (λ j i. f j (of_above m j (n ∷ ns) i).0) (down_right d e h p n ns x q u k))
+    (λ j i. f j (of_above m j (n ∷ ns) i).0) (down_half d e h p m n ns (above m (n ∷ ns)) x q (right_half e h p (n ∷ ns)) u k))

@@ -7,10 +7,6 @@ use Rattle.tree.proofs.Members.{depth, first, in_right}
 use Rattle.tree.proofs.Exact.{in_order}
 use Rattle.tree.proofs.Replacement.{punctured}
 
-tail_of : List Node → List Node
-tail_of [] = []
-tail_of (x ∷ xs) = xs
-
 -- in an ordered list a node stands once, so the list can be cut at it in one way only
 one_cut : (d : ℕ) (x : Node) (as' bs cs ds : List Node) → Ordered d (as' ++ (x ∷ bs)) → as' ++ (x ∷ bs) ≡ cs ++ (x ∷ ds) → (as' ≡ cs) × (bs ≡ ds)
 one_cut d x [] bs [] ds o q = (refl, cc)

@@ -1,72 +1,30 @@
 -- No nodes that cover the same numbers are fewer: the other list is split at the middle on the way down.
-use Rattle.std.proofs.Common.{◌≡◌, ℕ, zero, suc, ◌+◌, ◌^◌, ◌<◌, ◌≤◌, Bool, true, false, ltb, leb, ◌⊎◌, List, [], ◌∷◌, length, refl, ap, inl, inr, arith, length-append, pow_pos, ltb-true, lt-ltb, le-leb, leb-true}
-use Rattle.std.proofs.lemmas.Bool.{cases_lt, le-ltb, lt-leb}
+use Rattle.std.proofs.Common.{◌≡◌, ℕ, zero, suc, ◌+◌, ◌^◌, ◌<◌, ◌≤◌, ltb, leb, ◌⊎◌, List, [], ◌∷◌, length, filter, inl, inr, arith, length-append, pow_pos, ltb-true, lt-ltb, le-leb, leb-true}
 use Rattle.tree.specs.declared.Node.{Node}
 use Rattle.tree.specs.Cover.{In, Free, below, above, cover_at, Reached, Least}
-use Rattle.tree.proofs.Members.{first, in_below, in_above, of_below, of_above, Within, within_below, within_above, within_root, Under, range}
+use Rattle.tree.proofs.Members.{first, in_below, in_above, of_below, of_above, in_filter, of_filter, Within, within_below, within_above, within_root, Under, range}
+use Rattle.tree.proofs.Bounds.{halves}
 use Rattle.tree.proofs.Choice.{not_struck}
 use Rattle.tree.proofs.Places.{under_of_node}
 
-abbrev put : Bool → Node → List Node → List Node
-put true x xs = x ∷ xs
-put false x xs = xs
-
 -- the members that begin below m, and the others
 abbrev lows : ℕ → List Node → List Node
-lows m [] = []
-lows m (x ∷ xs) = put (ltb (first x) m) x (lows m xs)
+lows m xs = filter (λ x. ltb (first x) m) xs
 
 abbrev highs : ℕ → List Node → List Node
-highs m [] = []
-highs m (x ∷ xs) = put (leb m (first x)) x (highs m xs)
-
-in_put_tail : (b : Bool) (k n : Node) (ns : List Node) → In k ns → In k (put b n ns)
-in_put_tail true k n ns m = inr m
-in_put_tail false k n ns m = m
-
-in_put_head : (b : Bool) (k n : Node) (ns : List Node) → k ≡ n → b ≡ true → In k (put b n ns)
-in_put_head true k n ns q e = inl q
-in_put_head false k n ns q e = let z : ◌≡◌ {A = ℕ} 0 1 = cc in absurd (omega arith)
-
-of_put : (b : Bool) (k n : Node) (ns : List Node) → In k (put b n ns) → ((k ≡ n) × (b ≡ true)) ⊎ In k ns
-of_put true k n ns (inl q) = inl (q, refl)
-of_put true k n ns (inr m) = inr m
-of_put false k n ns m = inr m
+highs m xs = filter (λ x. leb m (first x)) xs
 
 in_lows : (m : ℕ) (x : Node) (xs : List Node) → In x xs → first x < m → In x (lows m xs)
-in_lows m x (y ∷ ys) (inl q) h = in_put_head (ltb (first y) m) x y (lows m ys) q (lt-ltb (first y) m (omega (arith, ap first q)))
-in_lows m x (y ∷ ys) (inr i) h = in_put_tail (ltb (first y) m) x y (lows m ys) (in_lows m x ys i h)
-in_lows m x [] i h = absurd i
+in_lows m x xs i h = grind (arith, in_filter, lt-ltb)
 
 in_highs : (m : ℕ) (x : Node) (xs : List Node) → In x xs → m ≤ first x → In x (highs m xs)
-in_highs m x (y ∷ ys) (inl q) h = in_put_head (leb m (first y)) x y (highs m ys) q (le-leb m (first y) (omega (arith, ap first q)))
-in_highs m x (y ∷ ys) (inr i) h = in_put_tail (leb m (first y)) x y (highs m ys) (in_highs m x ys i h)
-in_highs m x [] i h = absurd i
+in_highs m x xs i h = grind (arith, in_filter, le-leb)
 
 of_lows : (m : ℕ) (x : Node) (xs : List Node) → In x (lows m xs) → In x xs × (first x < m)
-of_lows m x (y ∷ ys) i =
-    elim (of_put (ltb (first y) m) x y (lows m ys) i) [
-      | inl a ↦ (inl a.0, omega (arith, ap first a.0, ltb-true (first y) m a.1))
-      | inr b ↦ (inr (of_lows m x ys b).0, (of_lows m x ys b).1)
-    ]
-of_lows m x [] i = absurd i
+of_lows m x xs i = grind (arith, of_filter, ltb-true)
 
 of_highs : (m : ℕ) (x : Node) (xs : List Node) → In x (highs m xs) → In x xs × (m ≤ first x)
-of_highs m x (y ∷ ys) i =
-    elim (of_put (leb m (first y)) x y (highs m ys) i) [
-      | inl a ↦ (inl a.0, omega (arith, ap first a.0, leb-true m (first y) a.1))
-      | inr b ↦ (inr (of_highs m x ys b).0, (of_highs m x ys b).1)
-    ]
-of_highs m x [] i = absurd i
-
-halves : (m : ℕ) (xs : List Node) → length (lows m xs) + length (highs m xs) ≡ length xs
-halves m [] = refl
-halves m (x ∷ xs) =
-    let r = halves m xs in
-    elim (cases_lt (first x) m) [
-      | inl l ↦ rw (lt-ltb (first x) m l, lt-leb m (first x) l) (omega arith)
-      | inr l ↦ rw (le-ltb (first x) m l, le-leb m (first x) l) (omega arith)
-    ]
+of_highs m x xs i = grind (arith, of_filter, leb-true)
 
 -- a list of nodes under (e, p) that covers the numbers there that are not spent
 record Does (d e h p : ℕ) (ns : List ℕ) (xs : List Node) : Type 0 where
@@ -130,7 +88,7 @@ least_at d e (suc h) p (k ∷ ks) xs q w r =
     let m = p + 2 ^ h in
     let a = least_at d (suc e) h p (below m (k ∷ ks)) (lows m xs) (omega arith) (within_below h p (k ∷ ks) w) (left d e h p k ks xs q w r) in
     let b = least_at d (suc e) h m (above m (k ∷ ks)) (highs m xs) (omega arith) (within_above h p (k ∷ ks) w) (right d e h p k ks xs q w r) in
-    let c = halves m xs in
+    let c = halves first m xs in
     rw length-append (omega arith)
 
 pub least : Least

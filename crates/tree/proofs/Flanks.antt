@@ -15,15 +15,10 @@ abbrev pub Below : ℕ → Node → Node → Type 0
 Below d x y = Under (depth x) (d - depth x) (first x) y
 
 below_self : (d e h p : ℕ) (x y : Node) → e + h ≡ d → x ≡ node_at e p → Below d x y → Under e h p y
-below_self d e h p x y q i u =
-    let k : d - e ≡ h = omega arith in
-    let v : Under e (d - e) p y = subst (λ (z : Node). Below d z y) i u in
-    subst (λ (j : ℕ). Under e j p y) k v
+below_self d e h p x y q i u = grind arith
 
 self_below : (d e h p : ℕ) (x y : Node) → e + h ≡ d → x ≡ node_at e p → Under e h p y → Below d x y
-self_below d e h p x y q i u =
-    let k : d - e ≡ h = omega arith in
-    subst (λ (z : Node). Below d z y) (sym i) (subst (λ (j : ℕ). Under e j p y) (sym k) u)
+self_below d e h p x y q i u = grind arith
 
 pub below_trans : (d e h p : ℕ) (x y : Node) → e + h ≡ d → Under e h p x → Below d x y → Under e h p y
 below_trans d e zero p x y q i u = below_self d e zero p x y q i u
@@ -50,12 +45,8 @@ nested d e (suc h) p n x z q (inr (inr i)) (inr (inl j)) l a b =
 
 pub child_under : (d e h p : ℕ) (z y : Node) → e + h ≡ d → Under e h p z → Child d z y → depth y ≤ d → Under e h p y
 child_under d e zero p z y q i c l = absurd (omega (arith, ap depth i))
-child_under d e (suc h) p z y q (inl i) (a, inl b) l =
-    inr (inl (subst (λ (k : Node). Under (suc e) h p k) (sym (node_eq y (suc e) p (omega (arith, ap depth i)) (omega (arith, ap first i)))) (under_self (suc e) h p)))
-child_under d e (suc h) p z y q (inl i) (a, inr b) l =
-    let m = p + 2 ^ h in
-    let w = wid d (depth y) h (omega (arith, ap depth i)) in
-    inr (inr (subst (λ (k : Node). Under (suc e) h m k) (sym (node_eq y (suc e) m (omega (arith, ap depth i)) (omega (arith, ap first i)))) (under_self (suc e) h m)))
+child_under d e (suc h) p z y q (inl i) (a, inl b) l = grind (arith, node_eq, under_self)
+child_under d e (suc h) p z y q (inl i) (a, inr b) l = grind (arith, wid, node_eq, under_self)
 child_under d e (suc h) p z y q (inr (inl i)) c l = inr (inl (child_under d (suc e) h p z y (omega arith) i c l))
 child_under d e (suc h) p z y q (inr (inr i)) c l = inr (inr (child_under d (suc e) h (p + 2 ^ h) z y (omega arith) i c l))
 

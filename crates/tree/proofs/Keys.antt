@@ -1,5 +1,6 @@
 -- The cover with its values: what a puncture does to it, and which keys follow from it.
 use Rattle.std.proofs.Common.{◌≡◌, ℕ, ◌+◌, ◌-◌, ◌^◌, ◌<◌, ◌≤◌, List, [], ◌∷◌, ◌++◌, sym, refl, ap, ◌∙◌, subst, ap₂, inl, inr, arith}
+use Rattle.std.proofs.lemmas.List.{map-append}
 use Rattle.tree.specs.declared.Node.{Node}
 use Rattle.tree.specs.Nodes.{Covers}
 use Rattle.tree.specs.Cover.{In, cover}
@@ -13,10 +14,6 @@ use Rattle.tree.proofs.Replacement.{cover_one}
 use Rattle.tree.proofs.Cuts.{punctured_at}
 use Rattle.tree.proofs.Flanks.{within_one}
 use Rattle.tree.proofs.Descent.{composed, key_from_is, agree}
-
-pub valued_append : (f : Node → List ℕ) (xs ys : List Node) → valued f (xs ++ ys) ≡ valued f xs ++ valued f ys
-valued_append f [] ys = refl
-valued_append f (x ∷ xs) ys = ap (λ (l : List Valued). (x, f x) ∷ l) (valued_append f xs ys)
 
 -- a cut of the list with values is a cut of the list
 pub record Uncut (f : Node → List ℕ) (xs : List Node) (x : Node) (u : List ℕ) (front back : List Valued) : Type 0 where
@@ -68,16 +65,15 @@ sibling_lies d n x y o v i =
 pub punctured_values : PuncturedValues
 punctured_values g d v spent n x u front back q c =
     let f : Node → List ℕ = value_of g d v in
+    let w : Node → Valued = λ y. (y, f y) in
     let r = uncut f (cover d spent) x u front back q in
-    let i : In x (cover d spent) = subst (λ (l : List Node). In x l) (sym r.was) (in_right x r.before (x ∷ r.after) (inl refl)) in
+    let i : In x (cover d spent) = rw r.was (in_right x r.before (x ∷ r.after) (inl refl)) in
     let o = node_of_under d x (cover_under d spent x i) in
-    let p = punctured_at d spent n x r.before r.after r.was c in
     let s : valued f (siblings_from d x n) ≡ valued (value_from g d x u) (siblings_from d x n) =
-    agree f (value_from g d x u) (siblings_from d x n) (λ y j.
+    agree (λ y. (y, f y)) (λ y. (y, value_from g d x u y)) (siblings_from d x n) (λ y j.
     let l = sibling_lies d n x y o.shallow c j in
-    sym (ap (λ (w : List ℕ). value_from g d x w y) r.here ∙ composed g d v x y o l.shallow l.deep l.within)) in
-    ap (valued f) p ∙ valued_append f r.before (siblings_from d x n ++ r.after) ∙
-    ap₂ (λ (a b : List Valued). a ++ b) r.low (valued_append f (siblings_from d x n) r.after ∙ ap₂ (λ (a b : List Valued). a ++ b) s r.high)
+    rw (r.here, composed g d v x y o l.shallow l.deep l.within)) in
+    ap (valued f) (punctured_at d spent n x r.before r.after r.was c) ∙ simp (map-append w, r.low, s, r.high)
 
 -- ---- the keys that can be worked out
 pub in_valued : (f : Node → List ℕ) (xs : List Node) (x : Node) → In x xs → In (x, f x) (valued f xs)

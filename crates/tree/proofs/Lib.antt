@@ -11,6 +11,5 @@ pub mod Descent
 pub mod Computed
 pub mod Keys
 pub mod Shapes
-pub mod Gaps
-pub mod Sift
 pub mod Turns
+pub mod Sift

@@ -1,8 +1,9 @@
 -- Membership in lists, the spent numbers under a node, and the nodes under a node by the way down.
-use Rattle.std.proofs.Common.{◌≡◌, ℕ, zero, suc, ◌+◌, ◌-◌, ◌^◌, ◌<◌, ◌≤◌, Bool, true, false, ltb, leb, ◌⊎◌, List, [], ◌∷◌, ◌++◌, sym, refl, ap, subst, inl, inr, arith, pow_pos, ltb-true, lt-ltb, le-leb, leb-true}
+use Rattle.std.proofs.Common.{◌≡◌, ℕ, zero, suc, ◌+◌, ◌-◌, ◌^◌, ◌<◌, ◌≤◌, Bool, true, ltb, leb, ◌⊎◌, List, [], ◌∷◌, ◌++◌, filter, sym, refl, ap, ◌∙◌, subst, inl, inr, arith, pow_pos, ltb-true, lt-ltb, le-leb, leb-true}
+use Rattle.std.proofs.lemmas.Bool.{cases_Bool}
 use Rattle.tree.specs.declared.Node.{Node}
 use Rattle.tree.specs.Nodes.{node_at}
-use Rattle.tree.specs.Cover.{In, keep, below, above}
+use Rattle.tree.specs.Cover.{In, below, above}
 
 -- a node's two fields as functions
 abbrev pub depth : Node → ℕ
@@ -12,7 +13,7 @@ abbrev pub first : Node → ℕ
 first x = x.first
 
 pub wid : (d e h : ℕ) → e + h ≡ d → 2 ^ (d - e) ≡ 2 ^ h
-wid d e h q = let k : d - e ≡ h = omega arith in ap (λ (k : ℕ). 2 ^ k) k
+wid d e h q = grind arith
 
 -- ---- membership
 pub in_left : {A : Type 0} (x : A) (s t : List A) → In x s → In x (s ++ t)
@@ -29,60 +30,43 @@ in_cases x [] t m = inr m
 in_cases x (y ∷ s) t (inl q) = inl (inl q)
 in_cases x (y ∷ s) t (inr m) = elim (in_cases x s t m) [ inl a ↦ inl (inr a) | inr b ↦ inr b ]
 
-in_keep_tail : (b : Bool) (k n : ℕ) (ns : List ℕ) → In k ns → In k (keep b n ns)
-in_keep_tail true k n ns m = inr m
-in_keep_tail false k n ns m = m
+pub in_filter : {A : Type 0} (p : A → Bool) (x : A) (xs : List A) → In x xs → p x ≡ true → In x (filter p xs)
+in_filter p x (y ∷ ys) (inl q) e = grind arith
+in_filter p x (y ∷ ys) (inr i) e = elim (cases_Bool (p y)) [ inl h ↦ rw h (inr (in_filter p x ys i e)) | inr h ↦ rw h (in_filter p x ys i e) ]
+in_filter p x [] i e = absurd i
 
-in_keep_head : (b : Bool) (k n : ℕ) (ns : List ℕ) → k ≡ n → b ≡ true → In k (keep b n ns)
-in_keep_head true k n ns q e = inl q
-in_keep_head false k n ns q e = let z : ◌≡◌ {A = ℕ} 0 1 = cc in absurd (omega arith)
-
-in_keep : (b : Bool) (k n : ℕ) (ns : List ℕ) → In k (keep b n ns) → ((k ≡ n) × (b ≡ true)) ⊎ In k ns
-in_keep true k n ns (inl q) = inl (q, refl)
-in_keep true k n ns (inr m) = inr m
-in_keep false k n ns m = inr m
+pub of_filter : {A : Type 0} (p : A → Bool) (x : A) (xs : List A) → In x (filter p xs) → In x xs × (p x ≡ true)
+of_filter p x (y ∷ ys) i =
+    elim (cases_Bool (p y)) [
+      | inl h ↦ elim (let j : In x (y ∷ filter p ys) = rw h at i in j) [ inl q ↦ (inl q, ap p q ∙ h) | inr j ↦ (inr (of_filter p x ys j).0, (of_filter p x ys j).1) ]
+      | inr h ↦ let j : In x (filter p ys) = rw h at i in (inr (of_filter p x ys j).0, (of_filter p x ys j).1)
+    ]
+of_filter p x [] i = absurd i
 
 pub in_below : (m k : ℕ) (ns : List ℕ) → In k ns → k < m → In k (below m ns)
-in_below m k (n ∷ ns) (inl q) h = in_keep_head (ltb n m) k n (below m ns) q (lt-ltb n m (omega arith))
-in_below m k (n ∷ ns) (inr i) h = in_keep_tail (ltb n m) k n (below m ns) (in_below m k ns i h)
-in_below m k [] i h = absurd i
+in_below m k ns i h = in_filter (λ n. ltb n m) k ns i (lt-ltb k m h)
 
 pub in_above : (m k : ℕ) (ns : List ℕ) → In k ns → m ≤ k → In k (above m ns)
-in_above m k (n ∷ ns) (inl q) h = in_keep_head (leb m n) k n (above m ns) q (le-leb m n (omega arith))
-in_above m k (n ∷ ns) (inr i) h = in_keep_tail (leb m n) k n (above m ns) (in_above m k ns i h)
-in_above m k [] i h = absurd i
+in_above m k ns i h = in_filter (leb m) k ns i (le-leb m k h)
 
 pub of_below : (m k : ℕ) (ns : List ℕ) → In k (below m ns) → In k ns × (k < m)
-of_below m k (n ∷ ns) i =
-    elim (in_keep (ltb n m) k n (below m ns) i) [
-      | inl a ↦ (inl a.0, omega (arith, a.0, ltb-true n m a.1))
-      | inr b ↦ (inr (of_below m k ns b).0, (of_below m k ns b).1)
-    ]
-of_below m k [] i = absurd i
+of_below m k ns i = grind (arith, of_filter, ltb-true)
 
 pub of_above : (m k : ℕ) (ns : List ℕ) → In k (above m ns) → In k ns × (m ≤ k)
-of_above m k (n ∷ ns) i =
-    elim (in_keep (leb m n) k n (above m ns) i) [
-      | inl a ↦ (inl a.0, omega (arith, a.0, leb-true m n a.1))
-      | inr b ↦ (inr (of_above m k ns b).0, (of_above m k ns b).1)
-    ]
-of_above m k [] i = absurd i
+of_above m k ns i = grind (arith, of_filter, leb-true)
 
 -- ---- all the numbers of the list are under the node of height h that begins at p
 abbrev pub Within : ℕ → ℕ → List ℕ → Type 0
 Within h p ns = (n : ℕ) → In n ns → (p ≤ n) × (n < p + 2 ^ h)
 
 pub within_below : (h p : ℕ) (ns : List ℕ) → Within (suc h) p ns → Within h p (below (p + 2 ^ h) ns)
-within_below h p ns w n i = let a = of_below (p + 2 ^ h) n ns i in ((w n a.0).0, a.1)
+within_below h p ns w n i = grind (arith, of_below)
 
 pub within_above : (h p : ℕ) (ns : List ℕ) → Within (suc h) p ns → Within h (p + 2 ^ h) (above (p + 2 ^ h) ns)
-within_above h p ns w n i =
-    let a = of_above (p + 2 ^ h) n ns i in
-    let b = w n a.0 in
-    (a.1, omega arith)
+within_above h p ns w n i = grind (arith, of_above)
 
 pub within_root : (d : ℕ) (ns : List ℕ) → Within d 0 (below (2 ^ d) ns)
-within_root d ns n i = let a = of_below (2 ^ d) n ns i in (omega arith, omega arith)
+within_root d ns n i = grind (arith, of_below)
 
 -- ---- the nodes under (e, p), down h levels
 abbrev pub Under : ℕ → ℕ → ℕ → Node → Type 0

@@ -34,16 +34,8 @@ placed d e (suc h) p x q (inr (inr u)) =
     record { j = suc r.j; k = 2 ^ r.j + r.k; deep = omega arith; at = omega arith; few = omega arith; short = omega arith }
 
 pub under_at : (d e h p j k : ℕ) (x : Node) → e + h ≡ d → depth x ≡ e + j → first x ≡ p + k * 2 ^ (d - depth x) → k < 2 ^ j → j ≤ h → Under e h p x
-under_at d e zero p j k x q a b c l =
-    let z : j ≡ 0 = omega arith in
-    let o : k < 1 = rw z at c in
-    let k0 : k ≡ 0 = omega arith in
-    let b0 : first x ≡ p + 0 * 2 ^ (d - depth x) = rw k0 at b in
-    node_eq x e p (omega arith) (omega arith)
-under_at d e (suc h) p zero k x q a b c l =
-    let k0 : k ≡ 0 = omega arith in
-    let b0 : first x ≡ p + 0 * 2 ^ (d - depth x) = rw k0 at b in
-    inl (node_eq x e p (omega arith) (omega arith))
+under_at d e zero p j k x q a b c l = grind (arith, node_eq)
+under_at d e (suc h) p zero k x q a b c l = grind (arith, node_eq)
 under_at d e (suc h) p (suc j) k x q a b c l =
     elim (cases_lt k (2 ^ j)) [
       | inl s ↦ inr (inl (under_at d (suc e) h p j k x (omega arith) (omega arith) b s (omega arith)))
@@ -73,7 +65,7 @@ under_of_node d x i =
 
 -- what a node of the tree covers is below 2 ^ d
 pub covered_below : (d n : ℕ) (x : Node) → Under 0 d 0 x → Covers d x n → n < 2 ^ d
-covered_below d n x u c = let r = range d 0 d 0 x (omega arith) u in omega arith
+covered_below d n x u c = grind (arith, range)
 
 free_up : (d : ℕ) (spent : List ℕ) (x : Node) → Under 0 d 0 x → Free d (below (2 ^ d) spent) x → Free d spent x
 free_up d spent x u f n i c = f n (in_below (2 ^ d) n spent i (covered_below d n x u c)) c

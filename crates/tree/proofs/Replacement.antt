@@ -33,16 +33,7 @@ lone d e h p n x q i =
     })
 
 replaced_on_left : (d e h p n k : ℕ) (ks : List ℕ) (x : Node) → n < p + 2 ^ h → ReplacedAt d (suc e) h p (below (p + 2 ^ h) (k ∷ ks)) n x → ReplacedAt d e (suc h) p (k ∷ ks) n x
-replaced_on_left d e h p n k ks x l r =
-    let m = p + 2 ^ h in
-    let rs = cover_at (suc e) h m (above m (k ∷ ks)) in
-    let ss = siblings_on (depth x) (d - depth x) (first x) n in
-    record {
-      front = r.front;
-      back = r.back ++ rs;
-      was = ap (λ z. z ++ rs) r.was ∙ append_assoc r.front (x ∷ r.back) rs;
-      is = rw (lt-ltb n m l, lt-leb m n l) (ap (λ z. z ++ rs) r.is ∙ simp append_assoc);
-    }
+replaced_on_left d e h p n k ks x l r = grind (arith, append_assoc, lt-ltb, lt-leb)
 
 replaced_on_right : (d e h p n k : ℕ) (ks : List ℕ) (x : Node) → p + 2 ^ h ≤ n → ReplacedAt d (suc e) h (p + 2 ^ h) (above (p + 2 ^ h) (k ∷ ks)) n x → ReplacedAt d e (suc h) p (k ∷ ks) n x
 replaced_on_right d e h p n k ks x l r =
@@ -77,10 +68,3 @@ pub punctured : Punctured
 punctured d spent n x i c =
     let l = covered_below d n x (cover_under d spent x i) c in
     rw (lt-ltb n (2 ^ d) l) (punct d 0 d 0 (below (2 ^ d) spent) n x (omega arith) (within_root d spent) i c)
-
--- ---- for a loop that walks down and lists the siblings: h is the height left, k that of the children, i their depth
-pub sib_left : (e i h k p n : ℕ) → h ≡ suc k → i ≡ suc e → n < p + 2 ^ k → siblings_on e h p n ≡ siblings_on i k p n ++ (node_at i (p + 2 ^ k) ∷ [])
-sib_left e i h k p n q r l = rw (q, r, lt-ltb n (p + 2 ^ k) l)
-
-pub sib_right : (e i h k p n : ℕ) → h ≡ suc k → i ≡ suc e → p + 2 ^ k ≤ n → siblings_on e h p n ≡ node_at i p ∷ siblings_on i k (p + 2 ^ k) n
-sib_right e i h k p n q r l = rw (q, r, le-ltb n (p + 2 ^ k) l)

@@ -1,5 +1,6 @@
 -- Which depths and first numbers make a node, as the code tests it.
-use Rattle.std.proofs.Common.{◌≡◌, ℕ, suc, ◌+◌, ◌-◌, ◌*◌, ◌/◌, ◌%◌, ◌^◌, ◌<◌, ◌≤◌, Bool, true, T, sym, refl, ap, ◌∙◌, subst, mod-eq_of_lt, div-add-mod', arith, pow_mono}
+use Rattle.std.proofs.Common.{◌≡◌, ℕ, suc, ◌+◌, ◌-◌, ◌*◌, ◌/◌, ◌%◌, ◌^◌, ◌<◌, ◌≤◌, sym, refl, ap, ◌∙◌, subst, div-add-mod', arith}
+use Rattle.std.proofs.lemmas.Nat.{one_shl}
 use native.Mathlib.Nat.{mul-mod_left}
 use Rattle.tree.specs.declared.Node.{Node}
 use Rattle.tree.specs.Nodes.{node_at, width_of, IsNode, Twins}
@@ -7,25 +8,19 @@ use Rattle.tree.proofs.Members.{depth, first, range}
 use Rattle.tree.proofs.Places.{under_of_node}
 use Rattle.tree.proofs.Choice.{node_eq}
 
-pub told : (b : Bool) → b ≡ true → T b
-told b q = subst T (sym q) tt
-
 -- 1 << k
 pub shifted : (k : ℕ) → k ≤ 24 → 1 * 2 ^ k % 4294967296 ≡ 2 ^ k
-shifted k l =
-    let m : 2 ^ k ≤ 2 ^ 24 = pow_mono l in
-    let o : 1 * 2 ^ k ≡ 2 ^ k = omega arith in
-    rw o (mod-eq_of_lt (omega arith))
+shifted k l = one_shl k 32 (omega arith)
 
 pub multiple : (p w : ℕ) → p % w ≡ 0 → p ≡ p / w * w
-multiple p w z = let q = div-add-mod' p w in omega arith
+multiple p w z = grind (arith, div-add-mod')
 
 pub node_from : (d w : ℕ) (x : Node) → depth x ≤ d → w ≡ width_of d (depth x) → first x % w ≡ 0 → first x < 2 ^ d → IsNode d x
 node_from d w x l q z i =
     record { shallow = l; place = first x / w; aligned = subst (λ (v : ℕ). first x ≡ first x / w * v) q (multiple (first x) w z); inside = i }
 
 pub node_to : (d w : ℕ) (x : Node) → w ≡ width_of d (depth x) → IsNode d x → first x % w ≡ 0
-node_to d w x q i = ap (λ (p : ℕ). p % w) i.aligned ∙ subst (λ (v : ℕ). i.place * v % w ≡ 0) q (mul-mod_left i.place w)
+node_to d w x q i = grind (arith, mul-mod_left)
 
 -- the width halves at each level
 pub halved : (d e : ℕ) → e < d → width_of d e ≡ 2 * width_of d (suc e)
@@ -33,10 +28,6 @@ halved d e l =
     let k : d - e ≡ suc (d - suc e) = omega arith in
     let w : 2 ^ (d - e) ≡ 2 ^ suc (d - suc e) = ap (λ (z : ℕ). 2 ^ z) k in
     omega arith
-
--- below 2 ^ d there is room for the whole width
-pub width_most : (d e : ℕ) → width_of d e ≤ 2 ^ d
-width_most d e = pow_mono (omega arith)
 
 pub twins_from : (d w : ℕ) (x y : Node) → IsNode d x → w ≡ width_of d (depth x) → 0 < depth x → depth x ≡ depth y → first x % (2 * w) ≡ 0 → first x + w ≡ first y → Twins d x y
 twins_from d w x y i q l s z t =

@@ -1,5 +1,5 @@
 -- The cover of a list of spent numbers: which nodes it has, in which order, and that no smaller one would do.
-use Rattle.std.specs.Prelude.{◌≡◌, ℕ, zero, suc, ◌+◌, ◌-◌, ◌*◌, ◌^◌, ◌<◌, ◌≤◌, Bool, true, false, ◌⊎◌, ◌↔◌, List, [], ◌∷◌, ◌++◌, length, nat_le, nat_lt}
+use Rattle.std.specs.Prelude.{◌≡◌, ℕ, zero, suc, ◌+◌, ◌-◌, ◌*◌, ◌^◌, ◌<◌, ◌≤◌, ◌⊎◌, ◌↔◌, List, [], ◌∷◌, ◌++◌, length, filter, nat_le, nat_lt}
 use Rattle.tree.specs.declared.Node.{Node}
 use Rattle.tree.specs.Nodes.{node_at, root_node, width_of, IsNode, Covers, Child}
 
@@ -20,18 +20,12 @@ abbrev pub Picked : ℕ → List ℕ → Node → Type 0
 Picked d spent x = (x ≡ root_node) ⊎ ((y : Node) × IsNode d y × Child d y x × Struck d spent y)
 
 -- ---- the cover, computed
-abbrev pub keep : Bool → ℕ → List ℕ → List ℕ
-keep true n ns = n ∷ ns
-keep false n ns = ns
-
 -- the numbers of the list below m, and those at m or above
 abbrev pub below : ℕ → List ℕ → List ℕ
-below m [] = []
-below m (n ∷ ns) = keep (nat_lt n m) n (below m ns)
+below m ns = filter (λ n. nat_lt n m) ns
 
 abbrev pub above : ℕ → List ℕ → List ℕ
-above m [] = []
-above m (n ∷ ns) = keep (nat_le m n) n (above m ns)
+above m ns = filter (λ n. nat_le m n) ns
 
 -- the cover of the tree of h levels below the node (e, p), given the spent numbers under that node
 abbrev pub cover_at : ℕ → ℕ → ℕ → List ℕ → List Node

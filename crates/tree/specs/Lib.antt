@@ -1,4 +1,5 @@
 pub mod Nodes
+pub mod Gaps
 pub mod Cover
 pub mod Puncture
 pub mod Values

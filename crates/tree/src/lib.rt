@@ -1,8 +1,9 @@
 //! The key tree: its nodes, the cover of the spent numbers, and the values.
 #![tactic(auto)]
 
-ghost use Rattle.std.specs.Prelude.{◌≡◌, ℕ, ◌+◌, ◌-◌, ◌^◌, ◌<◌, ◌≤◌, T, List, length, take, Some, None};
+ghost use Rattle.std.specs.Prelude.{◌≡◌, ℕ, ◌+◌, ◌-◌, ◌^◌, ◌<◌, ◌≤◌, T, List, [], ◌∷◌, ◌++◌, length, take, slice_set, Some, None};
 ghost use Rattle.tree.specs.declared.Node.{Node};
+ghost use Rattle.tree.specs.Gaps.{filled_in};
 ghost use Rattle.tree.specs.Nodes.{tree_levels, most_levels, width_of, IsNode, Covers, Above, HasChildren, left_of, right_of, Twins};
 ghost use Rattle.tree.specs.Cover.{Characterised, InOrder, Exactly, AtMostOne, Exhausted, Least, SameSet, Few};
 ghost use Rattle.tree.specs.Puncture.{siblings_on, siblings_from, Listed, SiblingsAre, Punctured, PuncturedAt};
@@ -124,15 +125,16 @@ impl Node {
 
     /// Lists the siblings of the nodes on the way from this node down to `n`, one for each level; none where there is no
     /// such way.
-    // Those on the left of the way go into the row from the front, and those on its right from the back of the part that is
-    // still to fill, where `h` is how many are to come after this one.
+    // Those on the left of the way go into the row from the front, and those on its right from the back. A loop over heights,
+    // no chain: each turn changes the node reached.
+    #[tactic(auto, using(crate::proofs::Sift::siblings_more, crate::proofs::Sift::two_halves, crate::proofs::Shapes::shifted))]
     pub fn siblings(&self, height: u8, n: u32) -> Option<SiblingList>
         ensures { Listed height self.now n result }
     {
         let count = usize::from(self.levels_to(height, n)?);
         let mut row = [Node { depth: 0, first: 0 }; ROW];
+        let mut gap = Gap::new(count);
         let mut left = *self;
-        let mut lo = 0;
         for h in (0..count).rev() {
             left.depth += 1;
             let right = Node {
@@ -140,10 +142,9 @@ impl Node {
                 ..left
             };
             if n < right.first {
-                row[lo + h] = right;
+                gap.fill_back(&mut row, &right);
             } else {
-                row[lo] = left;
-                lo += 1;
+                gap.fill_front(&mut row, &left);
                 left = right;
             }
         }
@@ -151,7 +152,55 @@ impl Node {
     }
 }
 
+/// The places of a row that are still to fill, where it is filled from both ends.
+// Two places, and no slice that shrinks: contracts tell of the row as a whole.
+#[derive(Drop)]
+pub struct Gap {
+    pub start: usize,
+    pub end: usize,
+}
+
+impl Gap {
+    /// The first places of a row.
+    pub fn new(size: usize) -> Gap
+        ensures start { result.start ≡ 0 }
+        ensures end { result.end ≡ size }
+    {
+        Gap {
+            start: 0,
+            end: size,
+        }
+    }
+
+    /// Puts an item into the first of these places.
+    pub fn fill_front<A: Copy>(&mut self, row: &mut [A], item: &A)
+        requires open { self.old.start < self.old.end }
+        requires within { self.old.end ≤ length row.old }
+        ensures start { self.new.start ≡ self.old.start + 1 }
+        ensures end { self.new.end ≡ self.old.end }
+        ensures placed { row.new ≡ slice_set row.old self.old.start item.now }
+        ensures filled { (xs : List A) → filled_in row.new self.new xs ≡ filled_in row.old self.old (item.now ∷ xs) }
+    {
+        row[self.start] = *item;
+        self.start += 1;
+    }
+
+    /// Puts an item into the last of these places.
+    pub fn fill_back<A: Copy>(&mut self, row: &mut [A], item: &A)
+        requires open { self.old.start < self.old.end }
+        requires within { self.old.end ≤ length row.old }
+        ensures start { self.new.start ≡ self.old.start }
+        ensures end { self.new.end + 1 ≡ self.old.end }
+        ensures placed { row.new ≡ slice_set row.old self.new.end item.now }
+        ensures filled { (xs : List A) → filled_in row.new self.new xs ≡ filled_in row.old self.old (xs ++ item.now ∷ []) }
+    {
+        self.end -= 1;
+        row[self.end] = *item;
+    }
+}
+
 /// The siblings on a way down, in increasing order.
+// No vector of the toolchain's crate `arrayvec`: that one grows at its end, and this is filled from both.
 #[derive(Drop)]
 pub struct SiblingList {
     row: [Node; ROW],

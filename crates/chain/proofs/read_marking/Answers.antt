@@ -12,16 +12,15 @@ use Rattle.chain.proofs.read_marking.Goals.{then-is_err, else-is_err}
 
 pub returns-in_err-head : goal.returns-in_err-head
 returns-in_err-head g c =
-    let s = g.D.ReadSlots.slots c.args.device.now in
-    let on = g.D.ReadSlots.powered c.args.device.now in
+    let s = g.D.ReadSlots.state c.args.device.now in
     let m = length c.args.marks.now in
-    let rd = reading_of 16 c.args.numbers.generator c.args.numbers.sealer m s on in
-    let rooms : c.room.result ≡ room_of (length s) = c.room.ensures ∙ ap room_of c.count.ensures in
-    let long : ltb m (room_of (length s)) ≡ false = le-ltb _ _ (omega (arith, rooms, c.if-marks-room.false, c.clear.auto.b)) in
+    let rd = reading_of 16 c.args.numbers m s in
+    let rooms : c.room.result ≡ room_of (length s.slots) = c.room.ensures ∙ ap room_of c.count.ensures in
+    let long : ltb m (room_of (length s.slots)) ≡ false = le-ltb _ _ (omega (arith, rooms, c.if-marks-room.false, c.clear.auto.b)) in
     let p = err_from_is_err_and c.from_residual.result c.from_residual.ensures.1 in
     let h = c.in_err-head.field-0.0 in
     let halt : p.0 ≡ h = p.2 in
-    let e : rd ≡ declined h = head_err 16 c.args.numbers.generator c.args.numbers.sealer m s on h long c.in_err-head.ensures in
+    let e : rd ≡ declined h = head_err 16 c.args.numbers m s h long c.in_err-head.ensures in
     record {
       is = p.1 ∙ ap Err halt ∙ sym (ap (answer_of 16 c.args.asked) e);
       marks = c.clear.ensures ∙ sym (ap (marks_of m) e);
@@ -30,18 +29,17 @@ returns-in_err-head g c =
 
 pub returns : goal.returns
 returns g c =
-    let s = g.D.ReadSlots.slots c.args.device.now in
-    let on = g.D.ReadSlots.powered c.args.device.now in
+    let s = g.D.ReadSlots.state c.args.device.now in
     let m = length c.args.marks.now in
-    let rd = reading_of 16 c.args.numbers.generator c.args.numbers.sealer m s on in
-    let rooms : c.room.result ≡ room_of (length s) = c.room.ensures ∙ ap room_of c.count.ensures in
-    let long : ltb m (room_of (length s)) ≡ false = le-ltb _ _ (omega (arith, rooms, c.if-marks-room.false, c.clear.auto.b)) in
+    let rd = reading_of 16 c.args.numbers m s in
+    let rooms : c.room.result ≡ room_of (length s.slots) = c.room.ensures ∙ ap room_of c.count.ensures in
+    let long : ltb m (room_of (length s.slots)) ≡ false = le-ltb _ _ (omega (arith, rooms, c.if-marks-room.false, c.clear.auto.b)) in
     let h = c.in_ok-head.head in
-    let e = head_ok 16 c.args.numbers.generator c.args.numbers.sealer m s on h long c.in_ok-head.ensures in
+    let e = head_ok 16 c.args.numbers m s h long c.in_ok-head.ensures in
     let is : c.judge-survey.result ≡ answer_of 16 c.args.asked rd =
     c.judge-survey.ensures.is
-    ∙ ap (λ (n : ℕ). answer_of 16 (Some n) (chain_of 16 h s)) c.unwrap_or-wanted.ensures
-    ∙ sym (asked_is 16 c.args.asked h (walk 16 (suc (2 ^ 16)) s 0 None 0 h.first))
+    ∙ ap (λ (n : ℕ). answer_of 16 (Some n) (chain_of 16 h s.slots)) c.unwrap_or-wanted.ensures
+    ∙ sym (asked_is 16 c.args.asked h (walk 16 (suc (2 ^ 16)) s.slots 0 None 0 h.first))
     ∙ sym (ap (answer_of 16 c.args.asked) e.1) in
     let same : length c.judge-survey.new.marks ≡ m = c.judge-survey.auto.marks ∙ c.clear.auto.b in
     record {

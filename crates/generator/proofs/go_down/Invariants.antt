@@ -5,7 +5,8 @@ use Rattle.generator.proofs.go_down.Given as goal
 -- a call for each turn made; what is left of the way leads from the value reached to its end
 abbrev pub invariant-loop-h : goal.invariant-loop-h
 invariant-loop-h g l =
+    let x = (g.G.Generator.meaning l.generator).expansion in
     record {
       counted : l.calls + l.h ≡ l.levels;
-      left : follow (g.G.Generator.expansion l.g) l.values.value (way l.h 0 l.n) ≡ follow (g.G.Generator.expansion l.g) l.fn.values.value (way l.levels 0 l.n);
+      left : follow x l.values.value (way l.h 0 l.n) ≡ follow x l.fn.values.value (way l.levels 0 l.n);
     }

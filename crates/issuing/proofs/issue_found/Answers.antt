@@ -5,6 +5,6 @@ use Rattle.issuing.proofs.issue_found.Goals as goal
 
 pub returns-in_err-write_at : goal.returns-in_err-write_at
 returns-in_err-write_at g c =
-    let p = err_from_is_err_and c.from_residual-in_err-write_at.result c.from_residual-in_err-write_at.ensures.1 in
-    let some : 0 < length (g.D.ReadSlots.slots c.args.d.now) = omega (arith, c.requires.within) in
-    rw (p.1, p.2) (head_cut _ _ _ _ _ _ _ _ _ _ _ _ some c.in_ok-next_head.ensures.1 c.in_err-write_at.ensures)
+    let p = err_from_is_err_and c.from_residual.result c.from_residual.ensures.1 in
+    let some : 0 < length (g.D.ReadSlots.state c.args.device.now).slots = omega (arith, c.requires.within) in
+    rw (p.1, p.2) (head_cut some c.next_head.ensures c.in_err-write_at.ensures)

@@ -1,7 +1,7 @@
 use Rattle.std.proofs.Common.{◌≡◌, ℕ, List, length, sym, ap, ◌∙◌, arith}
 use Rattle.octets.specs.Buffers.{zeros}
 use Rattle.rules.specs.Calls.{kept}
-use Rattle.issuing.proofs.Issued.{kept_err, kept_ok, with_buffer}
+use Rattle.rules.proofs.Kept.{kept_err, kept_ok}
 use Rattle.issuing.proofs.issue_on.Goals as goal
 use Rattle.issuing.proofs.issue_on.Goals.{then-is_err, else-is_err}
 
@@ -15,4 +15,4 @@ returns-clause-did g c =
       | then-is_err w ↦ w.ticket-is ∙ w.clear.ensures ∙ ap zeros same ∙ sym (kept_err r room out (sym c.is_err.ensures.value ∙ w.if-is_err.true))
       | else-is_err w ↦ w.ticket-is ∙ sym (kept_ok r room out (sym c.is_err.ensures.value ∙ w.if-is_err.false))
     ] in
-    with_buffer e c.issue_into-issued.ensures
+    rw e c.issue_into-issued.ensures

@@ -4,6 +4,6 @@ use Rattle.journal.proofs.run.Given as goal
 
 abbrev pub invariant-loop-slot : goal.invariant-loop-slot
 invariant-loop-slot g l = record {
-  slots : g.D.ReadSlots.slots l.d ≡ stood (g.D.ReadSlots.slots l.fn.d) (map (λ w. write_of w.0 w.1.now) (take l.slot-index l.writes));
-  on : g.D.ReadSlots.powered l.d ≡ true;
+  slots : (g.D.ReadSlots.state l.d).slots ≡ stood (g.D.ReadSlots.state l.fn.d).slots (map (λ w. write_of w.0 w.1.now) (take l.slot-index l.writes));
+  on : (g.D.ReadSlots.state l.d).power ≡ true;
 }

@@ -11,10 +11,10 @@ pub returns-in_err-write_at : goal.returns-in_err-write_at
 returns-in_err-write_at g c =
     let p = err_from_is_err_and c.from_residual.result c.from_residual.ensures.1 in
     let lt : c.loop-i.i < c.args.count = omega arith in
-    let h : c.loop-i.i < length (g.D.ReadSlots.slots c.args.d.now) = omega arith in
+    let h : c.loop-i.i < length (g.D.ReadSlots.state c.args.device.now).slots = omega arith in
     rw (p.1, p.2) (ran_as (sym (blank_around c.args.count c.loop-i.i lt)) (ran_cut _ (ran_next (write_of c.loop-i.i blank Make) c.loop-i.invariant h c.in_err-write_at.ensures)))
 
 pub loop-i-preserved : goal.loop-i-preserved
 loop-i-preserved g c =
-    let h : c.loop-i.i < length (g.D.ReadSlots.slots c.args.d.now) = omega arith in
+    let h : c.loop-i.i < length (g.D.ReadSlots.state c.args.device.now).slots = omega arith in
     ran_as (sym (blank_more c.loop-i.i)) (ran_next (write_of c.loop-i.i blank Make) c.loop-i.invariant h c.in_ok-write_at.ensures)

@@ -5,4 +5,4 @@ use Rattle.opening.proofs.blank_all.Given as goal
 
 -- the first i slots are zero
 abbrev pub invariant-loop-i : goal.invariant-loop-i
-invariant-loop-i g l = Ran (g.D.ReadSlots.slots l.initial.d) (blank_writes 0 l.i) (Ok tt) (g.D.ReadSlots.slots l.d) (g.D.ReadSlots.powered l.d)
+invariant-loop-i g l = Ran (g.D.ReadSlots.state l.initial.device).slots (blank_writes 0 l.i) (Ok tt) (g.D.ReadSlots.state l.device)

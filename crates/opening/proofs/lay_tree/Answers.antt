@@ -8,7 +8,7 @@ returns-in_err-blank_all g c =
     let p = err_from_is_err_and c.from_residual.result c.from_residual.ensures.1 in
     let pre = c.requires in
     record {
-      did = rw (p.1, p.2) (cut_blank tree_levels _ _ _ _ pre.0 pre.1.0 _ _ _ c.in_err-blank_all.ensures);
+      did = rw (p.1, p.2) (cut_blank tree_levels _ _ _ _ pre.0.0 pre.1 _ _ c.in_err-blank_all.ensures);
       clean = c.drop-guard.ensures;
     }
 
@@ -17,7 +17,7 @@ returns-in_err-write_at g c =
     let p = err_from_is_err_and c.from_residual-in_err-write_at.result c.from_residual-in_err-write_at.ensures.1 in
     let pre = c.requires in
     record {
-      did = rw (p.1, p.2) (cut_root tree_levels _ _ _ _ pre.0 pre.1.0 _ _ _ _ _ _ c.in_ok-blank_all.ensures c.encode_node.ensures.is c.in_err-write_at.ensures);
+      did = rw (p.1, p.2) (cut_root tree_levels _ _ _ _ pre.0.0 pre.1 _ _ _ _ c.in_ok-blank_all.ensures c.encode_node.ensures.is c.in_err-write_at.ensures);
       clean = c.drop-guard-in_err-write_at.ensures;
     }
 
@@ -25,6 +25,6 @@ pub returns : goal.returns
 returns g c =
     let pre = c.requires in
     record {
-      did = laid tree_levels _ _ _ _ pre.0 pre.1.0 _ _ _ _ _ _ _ _ _ c.in_ok-blank_all.ensures c.encode_node.ensures.is c.in_ok-write_at.ensures c.encode_head.ensures.is c.write_at-2.ensures;
+      did = laid tree_levels _ _ _ _ pre.0.0 pre.1 _ _ _ _ _ _ c.in_ok-blank_all.ensures c.encode_node.ensures.is c.in_ok-write_at.ensures c.encode_head.ensures.is c.write_at-2.ensures;
       clean = c.drop-guard-2.ensures;
     }

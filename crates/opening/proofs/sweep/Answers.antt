@@ -1,6 +1,7 @@
 use Rattle.std.proofs.Common.{◌∙◌}
 use Rattle.std.proofs.lemmas.Result.{err_from_is_err_and}
-use Rattle.opening.proofs.Swept.{ran_on, ran_long, swept_more, swept_cut, swept_all}
+use Rattle.steps.proofs.Plans.{done_power, done_long}
+use Rattle.opening.proofs.Swept.{swept_more, swept_cut, swept_all}
 use Rattle.opening.proofs.sweep.Goals as goal
 
 pub returns-in_err-sweep_slot : goal.returns-in_err-sweep_slot
@@ -8,18 +9,18 @@ returns-in_err-sweep_slot g c =
     let p = err_from_is_err_and c.from_residual.result c.from_residual.ensures.1 in
     let pre = c.requires in
     let i = c.loop-i.i in
-    λ xs e long. rw (p.1, p.2) (swept_cut _ _ _ xs _ _ (swept_more _ _ _ _ _ c.args.marks.now xs c.args.count i _ pre.0 c.loop-i.auto.i c.loop-i-test.true e long (c.loop-i.invariant.2 xs e long) c.in_err-sweep_slot.ensures))
+    λ xs e long. rw (p.1, p.2) (swept_cut _ _ xs _ _ (swept_more _ _ _ c.args.marks.now xs c.args.count i _ pre.0 c.loop-i.auto.i c.loop-i-test.true e long (c.loop-i.invariant.2 xs e long) c.in_err-sweep_slot.ensures))
 
 pub loop-i-preserved : goal.loop-i-preserved
 loop-i-preserved g c =
     let pre = c.requires in
     let ran = c.in_ok-sweep_slot.ensures in (
-      ran_on ran,
-      ran_long ran ∙ c.loop-i.invariant.1,
-      λ xs e long. swept_more _ _ _ _ _ c.args.marks.now xs c.args.count c.loop-i.i _ pre.0 c.loop-i.auto.i c.loop-i-test.true e long (c.loop-i.invariant.2 xs e long) ran,
+      done_power ran,
+      done_long ran ∙ c.loop-i.invariant.1,
+      λ xs e long. swept_more _ _ _ c.args.marks.now xs c.args.count c.loop-i.i _ pre.0 c.loop-i.auto.i c.loop-i-test.true e long (c.loop-i.invariant.2 xs e long) ran,
     )
 
 pub returns : goal.returns
 returns g c =
     let pre = c.requires in
-    λ xs e long. swept_all _ _ _ xs c.args.count c.loop-i.i pre.0 c.loop-i-test.false (c.loop-i.invariant.2 xs e long)
+    λ xs e long. swept_all _ _ xs c.args.count c.loop-i.i pre.0 c.loop-i-test.false (c.loop-i.invariant.2 xs e long)

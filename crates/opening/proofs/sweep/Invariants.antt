@@ -10,6 +10,6 @@ use Rattle.opening.proofs.sweep.Given as goal
 -- the slots before i are swept
 abbrev pub invariant-loop-i : goal.invariant-loop-i
 invariant-loop-i g l =
-    (g.D.ReadSlots.powered l.d ≡ true) × (length (g.D.ReadSlots.slots l.d) ≡ length (g.D.ReadSlots.slots l.initial.d))
+    ((g.D.ReadSlots.state l.device).power ≡ true) × (length (g.D.ReadSlots.state l.device).slots ≡ length (g.D.ReadSlots.state l.initial.device).slots)
     × ((xs : List Link) → l.marks ≡ marked_all (zeros (length l.marks)) xs → room_of l.count ≤ length l.marks →
-    Ran (g.D.ReadSlots.slots l.initial.d) (sofar (g.D.ReadSlots.slots l.initial.d) xs l.i) (Ok tt) (g.D.ReadSlots.slots l.d) (g.D.ReadSlots.powered l.d))
+    Ran (g.D.ReadSlots.state l.initial.device).slots (sofar (g.D.ReadSlots.state l.initial.device).slots xs l.i) (Ok tt) (g.D.ReadSlots.state l.device))

@@ -8,4 +8,4 @@ returns g c =
     let pre = c.requires in
     let kept = sym c.is_marked.ensures.is ∙ c.if-is_marked.false in
     let full = ap is_blank (sym c.in_ok-read_at.ensures.2) ∙ sym c.is_blank.ensures ∙ c.if-is_blank.false in
-    one_swept _ _ _ _ _ _ (get_or (g.D.ReadSlots.slots c.args.d.now) c.args.index []) _ kept full pre.0 c.write_at.ensures
+    one_swept _ _ _ _ (get_or (g.D.ReadSlots.state c.args.device.now).slots c.args.index []) _ kept full pre.0 c.write_at.ensures

@@ -1,12 +1,8 @@
-use Rattle.std.proofs.Common.{ap, ◌∙◌, subst}
-use Rattle.fault.specs.declared.Step.TheVariants.{Join}
-use Rattle.device.specs.Effects.{Slot}
+use Rattle.std.proofs.Common.{ap, ◌∙◌}
 use Rattle.layout.specs.Records.{relinked}
-use Rattle.steps.specs.OneStep.{write_of, Stepped}
 use Rattle.puncture.proofs.join.Goals as goal
 
 pub returns : goal.returns
 returns g c = λ h o.
-    let r = c.in_ok-read_at.ensures in
-    subst (λ (b : Slot). Stepped (g.D.ReadSlots.slots c.args.d.now) (g.D.ReadSlots.powered c.args.d.now) (write_of c.args.before b Join) c.write_at.result (g.D.ReadSlots.slots c.write_at.new.device) (g.D.ReadSlots.powered c.write_at.new.device))
-    (c.relink.ensures ∙ ap (relinked c.args.first) r.2) c.write_at.ensures
+    let b = c.relink.ensures ∙ ap (relinked c.args.first) c.in_ok-read_at.ensures.2 in
+    rw b at c.write_at.ensures

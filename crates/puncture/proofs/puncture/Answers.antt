@@ -19,7 +19,7 @@ returns-in_err-first g c =
     let p = err_from_is_err_and c.from_residual.result c.from_residual.ensures.1 in
     let is = c.as_slice.ensures ∙ c.in-Some.ensures.2 in
     record {
-      did = λ k f front x back v. rw (p.1, p.2) (cut_records v _ is (c.in_err-first.ensures (is_able v _ is)));
+      did = λ k f front x back v. rw (p.1, p.2) (cut_records v is (c.in_err-first.ensures (is_able v is)));
       clean = c.drop-guard-in_err-first.ensures;
     }
 
@@ -29,9 +29,9 @@ returns-in_err-join g c =
     let is = c.as_slice.ensures ∙ c.in-Some.ensures.2 in
     record {
       did = λ k f front x back v.
-          let l = c.in_ok-first.ensures (is_able v _ is) in
-          let m = may_join v _ is l in
-          rw (p.1, p.2) (cut_join v _ is l (c.in_err-join.ensures m.0 m.1));
+          let l = c.in_ok-first.ensures (is_able v is) in
+          let m = may_join v is l in
+          rw (p.1, p.2) (cut_join v is l (c.in_err-join.ensures m.0 m.1));
       clean = c.drop-guard-in_err-join.ensures;
     }
 
@@ -40,8 +40,8 @@ returns g c =
     let is = c.as_slice.ensures ∙ c.in-Some.ensures.2 in
     record {
       did = λ k f front x back v.
-          let l = c.in_ok-first.ensures (is_able v _ is) in
-          let m = may_join v _ is l in
-          punctured v _ is l (c.in_ok-join.ensures m.0 m.1) c.write_at.ensures;
+          let l = c.in_ok-first.ensures (is_able v is) in
+          let m = may_join v is l in
+          punctured v is l (c.in_ok-join.ensures m.0 m.1) c.write_at.ensures;
       clean = c.drop-guard-2.ensures;
     }

@@ -1,7 +1,7 @@
 use Rattle.std.proofs.Common.{◌≡◌, length, sym, ap, ◌∙◌}
 use Rattle.octets.specs.Buffers.{zeros}
 use Rattle.rules.specs.Calls.{kept}
-use Rattle.redeeming.proofs.Spends.{cleared, kept_err, kept_ok}
+use Rattle.rules.proofs.Kept.{kept_err, kept_ok}
 use Rattle.redeeming.proofs.redeem_on.Goals as goal
 use Rattle.redeeming.proofs.redeem_on.Goals.{then-is_err, else-is_err}
 
@@ -15,4 +15,4 @@ returns-clause-did g c =
       | then-is_err w ↦ w.state-is ∙ w.clear.ensures ∙ ap zeros l ∙ sym (kept_err r room out (sym c.is_err.ensures.value ∙ w.if-is_err.true))
       | else-is_err w ↦ w.state-is ∙ sym (kept_ok r room out (sym c.is_err.ensures.value ∙ w.if-is_err.false))
     ] in
-    cleared out e c.redeem_in-answer.ensures
+    rw e c.redeem_in-answer.ensures

@@ -16,7 +16,7 @@ loop-index-preserved g c =
     let part : List ℕ = c.in-Some.part.now in
     let m : ℕ = length part in
     let left : List ℕ = chunks_rest c.next.new.self.iter in
-    let stream : ℕ → List ℕ = g.S.Scheme.block c.args.scheme.now c.args.key.now in
+    let stream : ℕ → List ℕ = (g.S.Scheme.meaning c.args.scheme.now).block c.args.key.now in
     let steps = c.in-Some.ensures.steps in
     let parts : drop at plain ≡ part ++ left = ap (λ k. drop (k * size) plain) steps.1 ∙ sym c.loop-index.invariant.rest ∙ steps.0.1.0 in
     let long : length plain - at ≡ length (chunks_rest c.loop-index.index-iterator.iter) = sym (length-drop at plain) ∙ ap length (parts ∙ sym steps.0.1.0) in
@@ -25,7 +25,7 @@ loop-index-preserved g c =
     let before : at ≡ min (c.loop-index.index-iterator.count * size) (length plain) = omega (arith, ap (λ k. k * size) steps.1, steps.0.1.2) in
     let front : take at c.loop-index.out ≡ take at (covered stream size plain) =
     ap (λ k. take k c.loop-index.out) before ∙ c.loop-index.invariant.front ∙ ap (λ k. take k (covered stream size plain)) (sym before) in
-    let whole : length (stream i) ≡ size = g.met.S.Scheme.whole c.args.scheme.now c.args.key.now i ∙ sym c.size-size.ensures in
+    let whole : length (stream i) ≡ size = (g.met.S.Scheme.lawful c.args.scheme.now).whole c.args.key.now i ∙ sym c.size-size.ensures in
     let block : take size c.block.new.pad ≡ stream i = ap (take size) c.block.ensures ∙ filled_front (stream i) 64 size whole in
     let row = laid stream size plain part left c.block.new.pad c.lay.new.out i parts (omega arith) (omega arith) c.lay.ensures block in
     record {
@@ -39,7 +39,7 @@ loop-index-preserved g c =
 
 pub returns : goal.returns
 returns g c =
-    let stream : ℕ → List ℕ = g.S.Scheme.block c.args.scheme.now c.args.key.now in
+    let stream : ℕ → List ℕ = (g.S.Scheme.meaning c.args.scheme.now).block c.args.key.now in
     let size : ℕ = c.size-size.result in
     let plain : List ℕ = c.args.plain.now in
     let n : ℕ = length plain in

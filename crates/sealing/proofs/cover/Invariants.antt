@@ -12,6 +12,6 @@ invariant-loop-index g l =
       ends : (goal.iterator-loop-index g).is_finite parts;
       size : chunks_size parts.iter ≡ l.size;
       rest : chunks_rest parts.iter ≡ drop (parts.count * l.size) l.plain;
-      front : take at l.out ≡ take at (covered (g.S.Scheme.block l.scheme l.key) l.size l.plain);
+      front : take at l.out ≡ take at (covered ((g.S.Scheme.meaning l.scheme).block l.key) l.size l.plain);
       left : drop (length l.plain) l.out ≡ drop (length l.plain) l.initial.out;
     }

@@ -1,24 +1,17 @@
-use Rattle.std.proofs.Common.{◌≡◌, ℕ, List, map, take, sym, ◌∙◌, subst, arith, length-set}
-use Rattle.std.specs.List.{range_with_len}
-use Rattle.std.proofs.lemmas.List.{take_more_set}
-use Rattle.std.proofs.lemmas.List.FromFn.{map-range_with_len_more}
+use Rattle.std.proofs.Common.{◌≡◌, ℕ, ◌/◌, List, [], take, length, ◌∙◌, ◌+◌, ◌*◌, arith, rules}
+use Rattle.std.proofs.lemmas.List.FromFn.{fill_by_all}
+use Rattle.std.proofs.lemmas.List.{take_all}
+use Rattle.std.specs.Simd.{first_chunks}
+use Rattle.octets.proofs.Chunks.{word_at}
 use Rattle.sha.specs.Digest.{word_of, scheduled}
-use Rattle.sha.proofs.Chunks.{word_at}
 use Rattle.sha.proofs.block_words.Goals as goal
 
-pub loop-i-preserved : goal.loop-i-preserved
-loop-i-preserved c =
-    let i : ℕ = c.loop-i.i in
-    let b : List ℕ = c.args.block.now in
-    let x : ℕ = c.from_be_bytes.result in
-    let is : x ≡ word_of b i = word_at b _ c.as_chunks.ensures.front i x (omega arith) c.from_be_bytes.ensures in (
-      take_more_set c.loop-i.w i x (omega arith) ∙ rw (c.loop-i.invariant.0, is) (sym (map-range_with_len_more (word_of b) 0 i i (omega arith))),
-      simp length-set c.loop-i.invariant.1,
-    )
-
 pub returns : goal.returns
-unfolding scheduled
+unfolding scheduled word_of
 returns c =
-    let e : c.loop-i.i ≡ 16 = omega arith in
     let b : List ℕ = c.args.block.now in
-    subst (λ (i : ℕ). take i c.loop-i.w ≡ map (word_of b) (range_with_len 0 i)) e c.loop-i.invariant.0
+    let items = c.map.ensures.items in
+    let first : c.unwrap.result.now ≡ take 16 c.as_chunks.result.0.now = search rules in
+    let words : c.unwrap.result.now ≡ first_chunks 4 (length b / 4) b = first ∙ take_all 16 c.as_chunks.result.0.now (omega arith) ∙ c.as_chunks.ensures.front in
+    fill_by_all (word_of b) c.map.result 16 0 items.long
+    (λ i h. let called = items.at i [] 0 h in word_at (λ a b d e. a * 16777216 + b * 65536 + d * 256 + e) b _ words i _ (omega arith) (search rules))

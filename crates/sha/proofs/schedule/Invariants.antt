@@ -1,6 +1,6 @@
-use Rattle.std.proofs.Common.{◌≡◌, ◌+◌, ◌*◌, length, take}
+use Rattle.std.proofs.Common.{◌≡◌, ◌+◌, length, take}
 use Rattle.sha.specs.Digest.{scheduled}
 use Rattle.sha.proofs.schedule.Given as goal
 
-abbrev pub invariant-loop-m : goal.invariant-loop-m
-invariant-loop-m l = (take (8 * l.m + 16) l.w ≡ scheduled l.block (8 * l.m)) × (length l.w ≡ 64)
+abbrev pub invariant-loop-t : goal.invariant-loop-t
+invariant-loop-t l = record { front : take (l.t + 16) l.w ≡ scheduled l.block l.t; long : length l.w ≡ 64 }

@@ -7,4 +7,4 @@ pub returns-clause-did : goal.returns-clause-did
 returns-clause-did g c =
     let root : length c.args.root.now ≡ 32 = omega arith in
     let name : length c.args.name.now ≡ 16 = omega arith in
-    rw c.started.ensures (make_answered _ _ _ (lawful_by g.G.Generator.expansion g.G.Generator.code g.S.Sealer.sealing g.S.Sealer.overhead g.S.Sealer.number g.met.G.Generator.long g.met.S.Sealer.limited g.met.S.Sealer.long g.met.S.Sealer.apart c.args.self.generator c.args.self.sealer) _ _ _ _ _ root name c.make-made.ensures.did)
+    rw c.started.ensures (make_answered _ _ (lawful_by (g.met.G.Generator.lawful c.args.self.generator) (g.met.S.Sealer.lawful c.args.self.sealer)) _ _ _ _ _ root name c.make-made.ensures.did)

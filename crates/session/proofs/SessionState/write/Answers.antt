@@ -1,6 +1,4 @@
 use Rattle.std.proofs.Common.{◌≡◌, ℕ, ◌+◌, ◌-◌, ◌≤◌, true, length, sym, refl, ap, ◌∙◌, arith}
-use lib.Seq.{paste}
-use Rattle.octets.specs.Fields.{bytes_of}
 use Rattle.std.proofs.lemmas.List.{length-replicate}
 use Rattle.octets.specs.Buffers.{filled}
 use Rattle.session.specs.Limits.{most_length, name_at}
@@ -20,11 +18,7 @@ returns c =
     let at : c.secret_length-name_at.result ≡ 32 = c.secret_length-name_at.ensures in
     let from : s.name_length - 0 ≡ s.name_length = omega arith in
     let all : c.put_part-2.new.row ≡ filled (encode_of s) n =
-    filled_parts s n t f room c.clear.new.b c.put.new.b c.put-2.new.b c.put-3.new.b c.put-4.new.b c.put-5.new.b c.put_part.new.row c.put_part-2.new.row
-    c.clear.ensures
-    (c.put.ensures ∙ ap (λ (x : ℕ). paste c.clear.new.b 0 (bytes_of 2 x) 2) c.from.ensures)
-    c.put-2.ensures c.put-3.ensures c.put-4.ensures c.put-5.ensures c.put_part.ensures
-    (c.put_part-2.ensures ∙ simp (at, from)) in
+    simp (c.put_part-2.ensures, at, from, c.put_part.ensures, c.put-5.ensures, c.put-4.ensures, c.put-3.ensures, c.put-2.ensures, c.put.ensures, c.from.ensures, c.clear.ensures) (filled_parts s n t f room) in
     let k : 22 + c.secret_length-name_at.result + 1 + s.name_length ≡ name_at s.suite + 1 + s.name_length = ap (λ (x : ℕ). 22 + x + 1 + s.name_length) c.secret_length-name_at.ensures in
     record {
       value = answer s n t f room _ k fit;

@@ -1,7 +1,7 @@
 use Rattle.std.proofs.Common.{◌≡◌, ◌+◌, ◌^◌, ◌≤◌, ◌++◌, length, drop}
+use Rattle.tree.specs.Gaps.{filled_in}
 use Rattle.tree.specs.Nodes.{most_levels}
 use Rattle.tree.specs.Puncture.{siblings_on}
-use Rattle.tree.proofs.Gaps.{filled_in}
 use Rattle.tree.proofs.Node.siblings.Given as goal
 
 -- the node reached lies within the tree; and the siblings on the rest of the way fill the gap in the row
@@ -11,6 +11,7 @@ invariant-loop-h l =
       deep : l.left.depth + l.h ≤ most_levels;
       inside : l.left.first + 2 ^ l.h ≤ 2 ^ most_levels;
       long : length l.row ≡ most_levels;
-      room : l.lo + l.h ≤ most_levels;
-      listed : filled_in l.row (siblings_on l.left.depth l.h l.left.first l.n) l.lo l.h ≡ siblings_on l.self.depth l.count l.self.first l.n ++ drop l.count l.initial.row;
+      room : l.gap.start + l.h ≡ l.gap.end;
+      within : l.gap.end ≤ most_levels;
+      listed : filled_in l.row l.gap (siblings_on l.left.depth l.h l.left.first l.n) ≡ siblings_on l.self.depth l.count l.self.first l.n ++ drop l.count l.initial.row;
     }

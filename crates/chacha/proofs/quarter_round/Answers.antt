@@ -1,6 +1,0 @@
-use Rattle.chacha.specs.Cipher.{quarter_round}
-use Rattle.chacha.proofs.quarter_round.Goals as goal
-
-pub returns : goal.returns
-unfolding quarter_round
-returns c = cc

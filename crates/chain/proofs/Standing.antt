@@ -1,0 +1,34 @@
+-- A record of a file that is sound, from the slot that it stands in.
+use Rattle.std.proofs.Common.{◌≡◌, ℕ, ◌<◌, List, [], ◌∷◌, ◌++◌, length, get_or, Some, None, Option, sym, refl, ap, ◌∙◌, subst, inl}
+use Rattle.std.proofs.lemmas.List.{map-append}
+use Rattle.device.specs.Effects.{Slots}
+use Rattle.layout.specs.declared.Head.{Head}
+use Rattle.layout.specs.declared.Numbers.{Numbers}
+use Rattle.layout.specs.Records.{node_fields}
+use Rattle.tree.specs.declared.Node.{Node}
+use Rattle.tree.specs.Nodes.{IsNode}
+use Rattle.tree.specs.Cover.{In}
+use Rattle.tree.proofs.Members.{in_right}
+use Rattle.chain.specs.Reading.{Link, end_of, node_in, link_at, slots_of}
+use Rattle.chain.specs.Sound.{nodes_of, Chained, SoundFile}
+
+-- it has the value that stands in its slot
+link_value : (d : ℕ) (s : Slots) (front : List Link) (x : Link) (back : List Link) (from : ℕ) (b : Option Node) (i : ℕ) → Chained d s from b i (front ++ x ∷ back) → x ≡ link_at s x.slot
+link_value d s [] x back from b i c = sym c.2 ∙ ap (λ (z : Link). link_at s z.slot) c.2
+link_value d s (y ∷ front) x back from b i c =
+    link_value d s front x back (end_of d (node_in (get_or s i []))) (Some (node_in (get_or s i []))) (node_fields (get_or s i [])).next c.5
+
+-- the record x of a file, between front and back: in a slot of the device, read from there, a node of the tree
+pub record Standing (d : ℕ) (s : Slots) (x : Link) : Type 0 where
+  pub link : x ≡ link_at s x.slot
+  pub within : x.slot < length s
+  pub node : IsNode d x.node
+
+pub standing : {d : ℕ} {numbers : Numbers} {s : Slots} {h : Head} {xs : List Link} (front : List Link) (x : Link) (back : List Link) →
+    SoundFile d numbers s h xs → xs ≡ front ++ x ∷ back → Standing d s x
+standing {d = d} {s = s} {h = h} front x back f split =
+    record {
+      link = link_value d s front x back 0 None h.first (subst (Chained d s 0 None h.first) split f.chained);
+      within = (f.slots x.slot (subst (In x.slot) (sym (ap slots_of split ∙ map-append (λ (z : Link). z.slot) front (x ∷ back))) (in_right x.slot (slots_of front) (slots_of (x ∷ back)) (inl refl)))).1;
+      node = f.nodes x.node (subst (In x.node) (sym (ap nodes_of split ∙ map-append (λ (z : Link). z.node) front (x ∷ back))) (in_right x.node (nodes_of front) (nodes_of (x ∷ back)) (inl refl)));
+    }
