@@ -56,7 +56,7 @@ pub struct Halt {
 }
 
 /// Why a call was declined.
-// The fields of a `Halt`, and no `Halt` inside: a fault is read by its parts, in the order in which it is printed.
+// The fields of a `Halt`, and no `Halt` inside: a fault is read by its parts.
 #[derive(Clone, Copy, PartialEq, Eq, Debug)]
 pub struct Fault {
     pub refusal: Refusal,

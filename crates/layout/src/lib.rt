@@ -72,6 +72,7 @@ pub struct NodeFields {
 
 impl NodeFields {
     /// The fields of a node's record that leads on to the slot `next`. A record has two bytes for the first number.
+    // No From: it takes the next slot too, and asks that the first number has two bytes.
     pub fn of(node: &Node, next: u16) -> NodeFields
         requires { node.now.first < 2 ^ 16 }
         ensures { result ≡ fields_of node.now next }

@@ -36,7 +36,7 @@ pub struct Running<D, G, S> {
 
 /// What issue and redeem answer: a running server with two numbers (the length of what was written, the generator
 /// calls made) or with the fault, or a cold server after want of power.
-// Three cases, not a `Result`: a cold server comes only with want of power, which the type says so. The two numbers stay a pair:
+// Three cases, not a `Result`: a cold server comes only with want of power, and the type says so. The two numbers stay a pair:
 // they are of two types, and are taken apart where they come.
 pub enum Answered<D, G, S> {
     Done(Running<D, G, S>, (usize, u32)),
