@@ -1,17 +1,14 @@
 -- Issuing, from what its parts tell.
-use Rattle.std.proofs.Common.{◌≡◌, ℕ, ◌-◌, ◌<◌, ◌≤◌, Bool, true, false, ltb, List, [], ◌∷◌, ◌++◌, length, get_or, IsSome, Some, None, Option, Ok, Err, sym, refl, ap, ◌∙◌, subst, inl, arith}
+use Rattle.std.proofs.Common.{◌≡◌, ℕ, ◌-◌, ◌<◌, ◌≤◌, Bool, true, false, ltb, List, ◌∷◌, ◌++◌, length, IsSome, Some, None, Option, Ok, Err, sym, refl, ap, ◌∙◌, subst, inl, arith}
 use Rattle.std.proofs.lemmas.Bool.{lt-ltb, le-ltb}
 use Rattle.octets.specs.Buffers.{zeros}
 use Rattle.refusal.specs.declared.Refusal.TheVariants.{NotARecord, Exhausted}
 use Rattle.fault.specs.declared.Halt.{Halt}
 use Rattle.fault.specs.Faults.{plainly}
 use Rattle.device.specs.Effects.{State}
-use Rattle.layout.specs.Records.{value_of}
 use Rattle.session.specs.Records.{is_record}
 use Rattle.session.proofs.Trip.{most}
-use Rattle.tree.specs.declared.Node.{Node}
-use Rattle.tree.specs.Nodes.{tree_levels, Above}
-use Rattle.tree.specs.Cover.{In}
+use Rattle.tree.specs.Nodes.{tree_levels}
 use Rattle.tree.proofs.Members.{in_right}
 use Rattle.chain.specs.declared.Survey.{Survey}
 use Rattle.chain.specs.declared.Found.{Found}
@@ -56,15 +53,14 @@ module _ (k : Kit) (s : State) (plain : List ℕ) (room marks : ℕ) where
 
         pub exhausted : 65536 ≤ v.head.issued → (headed : Bool) × Issuing k tree_levels s plain room marks (Err (plainly Exhausted)) (zeros room) s headed
         exhausted l =
-            let t : ltb v.head.issued 65536 ≡ false = le-ltb _ _ l in
-            stopped (verdict_is ∙ ap (issuable tree_levels) (told_read told) ∙ rw t)
+            let t = le-ltb _ _ l in stopped (verdict_is ∙ ap (issuable tree_levels) (told_read told) ∙ rw t)
 
         module _ (l : v.head.issued < 65536) where
           file : SoundFile tree_levels (numbers_in k) s.slots v.head told.links
           file = to_sound tree_levels (numbers_in k) s.slots v.head told.links told.file
 
           verdict_ok : issue_verdict k tree_levels s plain room marks ≡ Ok (v.head, told.links)
-          verdict_ok = let t : ltb v.head.issued 65536 ≡ true = lt-ltb _ _ l in verdict_is ∙ ap (issuable tree_levels) (told_read told) ∙ rw t
+          verdict_ok = let t = lt-ltb _ _ l in verdict_is ∙ ap (issuable tree_levels) (told_read told) ∙ rw t
 
           -- the next number lies under a record
           pub covered : IsSome v.found
@@ -79,20 +75,14 @@ module _ (k : Kit) (s : State) (plain : List ℕ) (room marks : ℕ) where
 
             -- the record found, as a link of the chain
             link_is : link_of s.slots f ≡ spot.link
-            link_is =
-                let n : f.node ≡ spot.link.node = ap (λ z. z.node) spot.is in
-                let i : f.slot ≡ spot.link.slot = ap (λ z. z.slot) spot.is in
-                ap (λ z. record { slot = z; node = f.node; value = value_of (get_or s.slots z []) }) i
-                ∙ ap (λ z. record { slot = spot.link.slot; node = z; value = value_of (get_or s.slots spot.link.slot []) }) n
-                ∙ ap (λ z. record { slot = spot.link.slot; node = spot.link.node; value = z.value }) (sym stands.link)
+            link_is = ap (link_of s.slots) spot.is ∙ ap (λ z. record { slot = spot.link.slot; node = spot.link.node; value = z.value }) (sym stands.link)
 
             pub may : Issuable s v.head f plain room
             may =
-                let P : Node → Type 0 = λ z. Above tree_levels z v.head.issued in
                 record {
                   power = told.power;
                   within = omega (arith, ap (λ z. z.slot) spot.is, stands.within);
-                  under = subst P (sym (ap (λ z. z.node) spot.is)) (record { few = omega arith; is_node = stands.node; covers = spot.covers });
+                  under = rw spot.is (record { few = omega arith; is_node = stands.node; covers = spot.covers });
                   left = l;
                   short = most plain good;
                   long = entered.large;
@@ -104,7 +94,7 @@ module _ (k : Kit) (s : State) (plain : List ℕ) (room marks : ℕ) where
                 (ltb 0 m, cut (v.head, told.links) m h verdict_ok c q o (ap (λ x. kept x room ticket) q) refl)
             ends {r = r} {ticket = ticket} (gave q b c o) = (
               true,
-              given (v.head, told.links) spot.link verdict_ok (subst (In spot.link) (sym spot.split) (in_right spot.link spot.front (spot.link ∷ spot.back) (inl refl))) spot.covers
+              given (v.head, told.links) spot.link verdict_ok (rw spot.split (in_right spot.link spot.front (spot.link ∷ spot.back) (inl refl))) spot.covers
                   (subst (λ x. Finished tree_levels x.node v.head.issued (length (issued_ticket k tree_levels v.head x plain)) r) link_is q)
                   (ap (λ x. kept x room ticket) q.is ∙ b ∙ ap (λ x. issued_ticket k tree_levels v.head x plain ++ zeros (room - length (issued_ticket k tree_levels v.head x plain))) link_is)
                   c o refl,

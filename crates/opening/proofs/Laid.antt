@@ -1,5 +1,5 @@
 -- The writes of making a tree, put together from their parts.
-use Rattle.std.proofs.Common.{◌≡◌, ℕ, ◌<◌, ◌≤◌, List, [], ◌∷◌, ◌++◌, length, Ok, Err, Result, sym, ap, ◌∙◌, append_assoc, arith}
+use Rattle.std.proofs.Common.{◌≡◌, ℕ, ◌<◌, ◌≤◌, List, [], ◌∷◌, ◌++◌, length, Ok, Err, Result, refl, ◌∙◌, append_assoc, arith}
 use Rattle.device.specs.Effects.{Slot, Slots, State}
 use Rattle.fault.specs.declared.Halt.{Halt}
 use Rattle.fault.specs.declared.Step.TheVariants.{Make}
@@ -16,15 +16,12 @@ module _ (d : ℕ) (s : Slots) (n : ℕ) (root : List ℕ) (h : Head) (many : le
 
   pub cut_blank : (t : State) (e : Halt) → Ran s (blank_writes 0 n) (Err e) t → Ran s (tree_writes d s root h) (Err e) t
   cut_blank t e a =
-      ran_as (ap (λ m. blank_writes 0 m ++ (write_of 1 (root_record root) Make ∷ write_of 0 (encode_head d h) Make ∷ [])) (sym many))
-      (ran_cut (write_of 1 (root_record root) Make ∷ write_of 0 (encode_head d h) Make ∷ []) a)
+      rw many (ran_cut (write_of 1 (root_record root) Make ∷ write_of 0 (encode_head d h) Make ∷ []) a)
 
   pub cut_root : (t v : State) (a : Slot) (e : Halt) → Ran s (blank_writes 0 n) (Ok tt) t → a ≡ root_record root → Stepped t (write_of 1 a Make) (Err e) v → Ran s (tree_writes d s root h) (Err e) v
   cut_root t v a e r f w =
       let lt : 1 < length s = omega arith in
-      ran_as (append_assoc (blank_writes 0 n) (write_of 1 a Make ∷ []) (write_of 0 (encode_head d h) Make ∷ [])
-      ∙ ap (λ m. blank_writes 0 m ++ (write_of 1 a Make ∷ write_of 0 (encode_head d h) Make ∷ [])) (sym many)
-      ∙ ap (λ x. blank_writes 0 (length s) ++ (write_of 1 x Make ∷ write_of 0 (encode_head d h) Make ∷ [])) f)
+      ran_as (append_assoc (blank_writes 0 n) (write_of 1 a Make ∷ []) (write_of 0 (encode_head d h) Make ∷ []) ∙ plan a (encode_head d h) f refl)
       (ran_cut (write_of 0 (encode_head d h) Make ∷ []) (ran_next (write_of 1 a Make) r lt w))
 
   pub laid : (t v u : State) (a b : Slot) (e : Result (Unit {0}) Halt) → Ran s (blank_writes 0 n) (Ok tt) t → a ≡ root_record root → Stepped t (write_of 1 a Make) (Ok tt) v →

@@ -1,5 +1,5 @@
 -- Making, from its writes.
-use Rattle.std.proofs.Common.{◌≡◌, ℕ, ◌+◌, Bool, true, ltb, List, length, Result, sym, refl, subst₂}
+use Rattle.std.proofs.Common.{◌≡◌, ℕ, ◌+◌, Bool, true, ltb, List, length, Result, refl}
 use Rattle.device.specs.Effects.{Slots, State}
 use Rattle.fault.specs.declared.Halt.{Halt}
 use Rattle.layout.specs.declared.Numbers.{Numbers}
@@ -18,4 +18,4 @@ pub made_from : (k : Kit) (d : ℕ) (s : State) (numbers : Numbers) (u : Slots) 
     numbers_in k ≡ numbers → u ≡ s.slots → count_fits d s.slots ≡ true → Ran u (tree_writes d u root (record { first = 1; issued = 0; name = name; numbers = numbers })) r t →
     (headed : Bool) × Making k d s root name r t headed
 made_from k d s numbers u root name r t en e fits a =
-    made_by k d s root name r t fits (subst₂ (λ x m. Ran x (tree_writes d x root (record { first = 1; issued = 0; name = name; numbers = m })) r t) e (sym en) a)
+    made_by k d s root name r t fits (rw en (rw e at a))

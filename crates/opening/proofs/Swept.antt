@@ -1,6 +1,6 @@
 -- Sweeping, slot by slot.
 use Rattle.std.proofs.Common.{◌≡◌, ℕ, suc, ◌+◌, ◌-◌, ◌<◌, ◌≤◌, Bool, true, false, cond, ◌||◌, ◌≢◌, List, [], ◌∷◌, ◌++◌, length, get_or, take, drop, Ok, Err, Result, sym, refl, ap, ◌∙◌, append_assoc, append-nil, arith, length-drop, take-append-drop}
-use Rattle.std.proofs.lemmas.List.{take_more, take_all, length-take-le, get_or-drop, get_or-set_other}
+use Rattle.std.proofs.lemmas.List.{take_more, length-take-le, get_or-drop, get_or-set_other}
 use Rattle.device.specs.Effects.{Slot, Slots, State, blank}
 use Rattle.fault.specs.declared.Halt.{Halt}
 use Rattle.fault.specs.declared.Step.TheVariants.{Sweep}
@@ -19,23 +19,19 @@ use Rattle.opening.proofs.Marked.{marked_is}
 pub one_swept : (s t : State) (kept : Bool) (i : ℕ) (b : Slot) (r : Result (Unit {0}) Halt) → kept ≡ false → is_blank b ≡ false → i < length s.slots →
     Stepped s (write_of i blank Sweep) r t → Ran s.slots (sweep_at kept i b) r t
 one_swept s t kept i b r e f lt w =
-    ran_as (ap (λ t. cond t [] (write_of i blank Sweep ∷ [])) (sym f) ∙ ap (λ t. cond (t || is_blank b) [] (write_of i blank Sweep ∷ [])) (sym e)) (ran_one s t (write_of i blank Sweep) r lt w)
+    rw (e, f) (ran_one s t (write_of i blank Sweep) r lt w)
 
 -- ---- a row of slots
 sweep_split : (i : ℕ) (cs bs : Slots) (ps : List ℕ) → sweep_from i (cs ++ bs) ps ≡ sweep_from i cs ps ++ sweep_from (i + length cs) bs ps
-sweep_split i [] bs ps = let e : i ≡ i + 0 = omega arith in ap (λ j. sweep_from j bs ps) e
+sweep_split i [] bs ps = grind arith
 sweep_split i (c ∷ cs) bs ps =
     let e : suc i + length cs ≡ i + suc (length cs) = omega arith in
-    ap (λ x. sweep_at (holds ps i) i c ++ x) (sweep_split (suc i) cs bs ps ∙ ap (λ j. sweep_from (suc i) cs ps ++ sweep_from j bs ps) e)
-    ∙ sym (append_assoc (sweep_at (holds ps i) i c) (sweep_from (suc i) cs ps) (sweep_from (i + suc (length cs)) bs ps))
+    rw (← e, append_assoc) (ap (λ x. sweep_at (holds ps i) i c ++ x) (sweep_split (suc i) cs bs ps))
 
 sweep_more : (bs : Slots) (ps : List ℕ) (j : ℕ) → j < length bs → sweep_from 1 (take (j + 1) bs) ps ≡ sweep_from 1 (take j bs) ps ++ sweep_at (holds ps (1 + j)) (1 + j) (get_or bs j [])
 sweep_more bs ps j lt =
     let le : j ≤ length bs = omega arith in
-    ap (λ x. sweep_from 1 x ps) (take_more bs j [] lt)
-    ∙ sweep_split 1 (take j bs) (get_or bs j [] ∷ []) ps
-    ∙ ap (λ n. sweep_from 1 (take j bs) ps ++ sweep_from (1 + n) (get_or bs j [] ∷ []) ps) (length-take-le j bs le)
-    ∙ ap (λ x. sweep_from 1 (take j bs) ps ++ x) (append-nil (sweep_at (holds ps (1 + j)) (1 + j) (get_or bs j [])))
+    rw (take_more bs j [] lt) (rw (length-take-le j bs le, append-nil) at (sweep_split 1 (take j bs) (get_or bs j [] ∷ []) ps))
 
 kept_one : (t : Bool) (i k : ℕ) (s : Slots) → k ≢ i → get_or (stood s (cond t [] (write_of i blank Sweep ∷ []))) k [] ≡ get_or s k []
 kept_one true i k s ne = refl
@@ -47,9 +43,7 @@ kept_after i [] ps s k h = refl
 kept_after i (b ∷ bs) ps s k h =
     let h' : suc i + length bs ≤ k = omega arith in
     let ne : k ≢ i = omega arith in
-    ap (λ x. get_or x k []) (stood_append s (sweep_at (holds ps i) i b) (sweep_from (suc i) bs ps))
-    ∙ kept_after (suc i) bs ps (stood s (sweep_at (holds ps i) i b)) k h'
-    ∙ kept_one (holds ps i || is_blank b) i k s ne
+    rw stood_append (kept_after (suc i) bs ps (stood s (sweep_at (holds ps i) i b)) k h' ∙ kept_one (holds ps i || is_blank b) i k s ne)
 
 -- ---- the slots before i
 abbrev pub sofar : Slots → List Link → ℕ → List Write
@@ -70,14 +64,8 @@ swept_more s t v row xs n i r many pos lt e long a b =
     let few : 1 + length (take (i - 1) (drop 1 s)) ≤ i = omega (arith, length-take-le (i - 1) (drop 1 s) le) in
     let within : i < length s = omega arith in
     let same : get_or t.slots i [] ≡ get_or s i [] = ap (λ x. get_or x i []) (done_slots a) ∙ kept_after 1 (take (i - 1) (drop 1 s)) (slots_of xs) s i few in
-    ran_as (ap (λ m. sofar s xs i ++ sweep_at m i (get_or t.slots i [])) (marked_is n i lt row xs e long)
-    ∙ ap (λ x. sofar s xs i ++ sweep_at (holds (slots_of xs) i) i x) same
-    ∙ sym (sofar_more s xs i pos within))
-    (ran_then a b)
+    ran_as (sym (sofar_more s xs i pos within)) (ran_then a (rw (marked_is n i lt row xs e long, same) at b))
 
 pub swept_cut : (s : Slots) (v : State) (xs : List Link) (i : ℕ) (h : Halt) → Ran s (sofar s xs i) (Err h) v → Ran s (sweep_writes s xs) (Err h) v
 swept_cut s v xs i h a =
-    ran_as (sym (sweep_split 1 (take (i - 1) (drop 1 s)) (drop (i - 1) (drop 1 s)) (slots_of xs)) ∙ ap (λ x. sweep_from 1 x (slots_of xs)) (take-append-drop (i - 1) (drop 1 s))) (ran_cut _ a)
-
-pub swept_all : (s : Slots) (t : State) (xs : List Link) (n i : ℕ) → length s ≡ n → n ≤ i → Ran s (sofar s xs i) (Ok tt) t → Ran s (sweep_writes s xs) (Ok tt) t
-swept_all s t xs n i many le a = grind (arith, ran_as, take_all)
+    ran_as (rw take-append-drop at (sym (sweep_split 1 (take (i - 1) (drop 1 s)) (drop (i - 1) (drop 1 s)) (slots_of xs)))) (ran_cut _ a)

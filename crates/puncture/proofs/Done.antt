@@ -1,10 +1,10 @@
 -- A puncture put together from its writes.
-use Rattle.std.proofs.Common.{replicate, ◌≡◌, ℕ, ◌-◌, ◌<◌, ◌≤◌, true, ◌⊎◌, List, [], ◌∷◌, ◌++◌, length, get_or, Ok, Err, Result, sym, refl, ap, ◌∙◌, subst, inl, inr, append_assoc, arith}
+use Rattle.std.proofs.Common.{replicate, ◌≡◌, ℕ, ◌-◌, ◌<◌, ◌≤◌, true, ◌⊎◌, List, [], ◌∷◌, ◌++◌, length, get_or, Ok, Err, Result, refl, ap, ◌∙◌, inl, inr, append_assoc, arith}
 use Rattle.std.proofs.lemmas.List.{get_or-set_other}
 use Rattle.octets.specs.Buffers.{zeros}
 use Rattle.device.specs.Effects.{Slots, blank, State}
 use Rattle.fault.specs.declared.Halt.{Halt}
-use Rattle.fault.specs.declared.Step.TheVariants.{NewRecord, Join, Erasure}
+use Rattle.fault.specs.declared.Step.TheVariants.{Join, Erasure}
 use Rattle.layout.specs.Records.{relinked}
 use Rattle.tree.specs.declared.Node.{Node}
 use Rattle.tree.specs.Nodes.{root_node, most_levels, Above}
@@ -35,7 +35,7 @@ use Rattle.puncture.proofs.Values.{value_at_is, links_are}
 -- ---- small facts on links
 last_slot_cases : (i : ℕ) (xs : List Link) → (last_slot i xs ≡ i) ⊎ In (last_slot i xs) (slots_of xs)
 last_slot_cases i [] = inl refl
-last_slot_cases i (x ∷ xs) = elim (last_slot_cases x.slot xs) [ inl e ↦ inr (inl e) | inr m ↦ inr (inr m) ]
+last_slot_cases i (x ∷ xs) = inr (last_slot_cases x.slot xs)
 
 first_entry : (xs : List Link) → first_slot xs ≡ entry xs 0
 first_entry [] = refl
@@ -51,9 +51,7 @@ links_within (f ∷ fs) (v ∷ vs) j (inr m) = inr (links_within fs vs j m)
 unwritten : (s : Slots) (new : List Link) (i j : ℕ) → (In j (slots_of new) → ⊥) → get_or (stood s (new_writes new i)) j [] ≡ get_or s j []
 unwritten s [] i j f = refl
 unwritten s (x ∷ xs) i j f =
-    ap (λ (t : Slots). get_or t j []) (stood_append s (new_writes xs i) (write_of x.slot (record_of x (entry xs i)) NewRecord ∷ []))
-    ∙ get_or-set_other (stood s (new_writes xs i)) x.slot j (record_of x (entry xs i)) [] (λ q. f (inl q))
-    ∙ unwritten s xs i j (λ m. f (inr m))
+    rw stood_append (get_or-set_other (stood s (new_writes xs i)) x.slot j (record_of x (entry xs i)) [] (λ q. f (inl q)) ∙ unwritten s xs i j (λ m. f (inr m)))
 
 -- ---- the writes
 module _ (s : Slots) (front : List Link) (x : Link) (back new : List Link) (last : last_slot 0 front < length s) (here : x.slot < length s)
@@ -102,7 +100,7 @@ module _ {k : Kit} {d : ℕ} {s : State} {count : ℕ} {found : Found} {n : ℕ}
 
   -- there is a way down
   pub way_down : d ≤ most_levels → Above d found.node n
-  way_down m = subst (λ (y : Node). Above d y n) (sym node_same) (record { few = m; is_node = stands.node; covers = g.covers })
+  way_down m = rw node_same (record { few = m; is_node = stands.node; covers = g.covers })
 
   slots_within : (j : ℕ) → In j (slots_of f.1) → (0 < j) × (j < count)
   slots_within j m = let r = file.slots j m in (r.0, omega (arith, r.1, g.size))
@@ -123,7 +121,7 @@ module _ {k : Kit} {d : ℕ} {s : State} {count : ℕ} {found : Found} {n : ℕ}
   is_free : (j : ℕ) → In j taken → (1 ≤ j) × (j < count) × (In j (slots_of f.1) → ⊥)
   is_free j i =
       (free_are (length marks) count 1 f.1 j g.wide (λ b r. (slots_within b r).1)).0
-      (subst (λ (l : List ℕ). In j (open_slots l count)) g.marked (backward_in (open_slots marks count) m j enough i))
+      (rw g.marked at (backward_in (open_slots marks count) m j enough i))
 
   free_slots : FreeSlots s.slots f.1 taken
   free_slots = record {
@@ -141,7 +139,7 @@ module _ {k : Kit} {d : ℕ} {s : State} {count : ℕ} {found : Found} {n : ℕ}
 
   module _ {nodes : List Node} (is : nodes ≡ siblings_from d found.node n) where
     nodes_are : nodes ≡ siblings_from d x.node n
-    nodes_are = is ∙ ap (λ (y : Node). siblings_from d y n) node_same
+    nodes_are = rw node_same at is
 
     pub is_able : Able s count (length nodes) marks
     is_able = record { power = g.power; size = g.size; room = omega (arith, ap length nodes_are, siblings_many, enough) }
@@ -151,8 +149,7 @@ module _ {k : Kit} {d : ℕ} {s : State} {count : ℕ} {found : Found} {n : ℕ}
         let h : Node → List ℕ = value_from k.generator.expansion d x.node x.value in
         let sib = siblings_from d x.node n in
         let v : (j : ℕ) → j < length sib → get_or row j [] ≡ h (get_or sib j root_node) = λ j l.
-        ap (λ (w : List (List ℕ)). get_or w j []) g.kept
-        ∙ value_at_is h sib (replicate (most_levels - length (sibling_values k.generator.expansion d x.node x.value n)) (zeros value_length)) j l in
+        rw g.kept (value_at_is h sib (replicate (most_levels - length (sibling_values k.generator.expansion d x.node x.value n)) (zeros value_length)) j l) in
         ap (λ (l : List Node). links_for (open_slots marks count) l row) nodes_are
         ∙ links_are (open_slots marks count) sib row h v
         ∙ ap (λ (j : ℕ). links_in (backward (open_slots marks count) j) (valued h sib)) siblings_many
@@ -169,7 +166,7 @@ module _ {k : Kit} {d : ℕ} {s : State} {count : ℕ} {found : Found} {n : ℕ}
     last_in : (last_slot 0 front ≡ 0) ⊎ In (last_slot 0 front) (slots_of f.1)
     last_in = elim (last_slot_cases 0 front) [
       | inl e ↦ inl e
-      | inr i ↦ inr (subst (λ (l : List Link). In (last_slot 0 front) (slots_of l)) (sym g.chain) (slot_left (last_slot 0 front) front (x ∷ back) i))
+      | inr i ↦ inr (rw g.chain (slot_left (last_slot 0 front) front (x ∷ back) i))
     ]
 
     last_within : last_slot 0 front < length s.slots
@@ -187,9 +184,7 @@ module _ {k : Kit} {d : ℕ} {s : State} {count : ℕ} {found : Found} {n : ℕ}
         ]
 
     laid_new : (r : Result ℕ Halt) (t : State) → Laid s.slots (links_for (open_slots marks count) nodes row) found.next r t → Laid s.slots (new_links k d x n taken) (entry back 0) r t
-    laid_new r t l =
-        subst (λ (z : ℕ). Laid s.slots (new_links k d x n taken) z r t) next_is
-        (subst (λ (z : List Link). Laid s.slots z found.next r t) links_new l)
+    laid_new r t l = rw (links_new, next_is) at l
 
     by_writes : {r : Result (Unit {0}) Halt} {t : State} → Ran s.slots (redeem_writes s.slots front x back (new_links k d x n taken)) r t → Puncturing k d s.slots f front x back n r t
     by_writes a = record { taken = taken; free = free_slots; many = many; ran = a }

@@ -1,7 +1,6 @@
 -- Laying out a record, and the records that are written so far.
-use Rattle.std.proofs.Common.{◌≡◌, ℕ, zero, suc, ◌+◌, ◌-◌, ◌<◌, ◌≤◌, true, List, [], ◌∷◌, ◌++◌, length, get_or, take, drop, min, ◌⊎◌, inl, inr, Some, None, Option, Ok, Err, Result, sym, refl, ap, ◌∙◌, append_assoc, append-nil, arith}
+use Rattle.std.proofs.Common.{◌≡◌, ℕ, zero, suc, ◌+◌, ◌-◌, ◌<◌, ◌≤◌, true, List, [], ◌∷◌, ◌++◌, length, get_or, take, drop, Some, None, Option, Ok, Err, Result, sym, refl, ap, ◌∙◌, append_assoc, append-nil, arith}
 use Rattle.std.proofs.Math.Seq.{get_or-append_seam}
-use Rattle.std.proofs.lemmas.Bool.{cases_lt}
 use Rattle.std.proofs.lemmas.List.{length_push, take-append-drop, length-take-le, length-append}
 use Rattle.device.specs.Effects.{Slot, Slots, State}
 use Rattle.fault.specs.declared.Halt.{Halt}
@@ -29,10 +28,10 @@ pub record Ahead (nodes : List Node) (row : List (List ℕ)) (ns : List Node) (v
 pub all_ahead : {nodes ns : List Node} {row vs : List (List ℕ)} → ns ≡ nodes → vs ≡ take (length nodes) row → length nodes ≤ length row → Ahead nodes row ns vs
 all_ahead {nodes = nodes} {row = row} e f l = record {
   behind = [];
-  nodes_are = sym (append-nil _ ∙ e);
+  nodes_are = rw append-nil (sym e);
   others = drop (length nodes) row;
   values_are = sym (take-append-drop (length nodes) row) ∙ ap (λ (xs : List (List ℕ)). xs ++ drop (length nodes) row) (sym f);
-  many = ap length f ∙ length-take-le (length nodes) row l ∙ sym (ap length e);
+  many = grind (arith, length-take-le);
 }
 
 -- the last of them is drawn, a node with its value
@@ -50,24 +49,14 @@ drawn {nodes = nodes} {row = row} {ns = ns} {ns' = ns'} {vs = vs} {vs' = vs'} {x
     let q : vs ≡ vs' ++ y ∷ [] = h (omega (arith, a.many)) in
     let n : nodes ≡ ns' ++ x ∷ a.behind = a.nodes_are ∙ ap (λ (zs : List Node). zs ++ a.behind) p ∙ append_assoc ns' (x ∷ []) a.behind in
     let v : row ≡ vs' ++ y ∷ a.others = a.values_are ∙ ap (λ (zs : List (List ℕ)). zs ++ a.others) q ∙ append_assoc vs' (y ∷ []) a.others in
-    let m : length vs' ≡ length ns' = omega (arith, a.many, ap length p, ap length q, length_push ns' x, length_push vs' y) in
+    let m : length vs' ≡ length ns' = omega (arith, ap length p, ap length q, length_push ns' x, length_push vs' y) in
     record {
       fewer = omega (arith, ap length p, length_push ns' x);
       within = omega (arith, ap length n, length-append ns' (x ∷ a.behind));
-      node = ap (λ (zs : List Node). get_or zs (length ns') root_node) n ∙ get_or-append_seam ns' x a.behind root_node;
-      value = ap (λ (j : ℕ). get_or row j []) (sym m) ∙ ap (λ (zs : List (List ℕ)). get_or zs (length vs') []) v ∙ get_or-append_seam vs' y a.others [];
+      node = rw n (get_or-append_seam ns' x a.behind root_node);
+      value = rw (← m, v) (get_or-append_seam vs' y a.others []);
       onward = record { behind = x ∷ a.behind; nodes_are = n; others = y ∷ a.others; values_are = v; many = m };
     }
-
-pub none_ahead : {nodes : List Node} {row : List (List ℕ)} {ns : List Node} {vs : List (List ℕ)} → Ahead nodes row ns vs →
-    (0 < min (length ns) (length vs) → (length ns - length vs ≡ 0 → length ns ≡ 0) ⊎ (length vs - length ns ≡ 0 → length vs ≡ 0)) → length ns ≡ 0
-none_ahead {ns = ns} {vs = vs} a h = elim (cases_lt 0 (length ns)) [
-  | inr e ↦ omega (arith, e)
-  | inl l ↦ elim (h (omega (arith, l, a.many))) [
-    | inl p ↦ p (omega (arith, a.many))
-    | inr q ↦ omega (arith, a.many, q (omega (arith, a.many)))
-  ]
-]
 
 -- of m nodes the last `m - left` are written
 pub record Going (s : Slots) (nodes : List Node) (row : List (List ℕ)) (marks : List ℕ) (count last left from next : ℕ) (t : State) : Type 0 where
@@ -81,16 +70,14 @@ more_writes : (us : List ℕ) (nodes : List Node) (row : List (List ℕ)) (m las
     (ws : List Write) × (new_writes (last_links us nodes row m (n + k)) last ≡ new_writes (last_links us nodes row m n) last ++ ws)
 more_writes us nodes row m last n zero =
     let e : n + 0 ≡ n = omega arith in
-    ([], ap (λ (j : ℕ). new_writes (last_links us nodes row m j) last) e ∙ sym (append-nil (new_writes (last_links us nodes row m n) last)))
+    ([], rw (e, append-nil) refl)
 more_writes us nodes row m last n (suc k) =
     let e : n + suc k ≡ suc (n + k) = omega arith in
     let r = more_writes us nodes row m last n k in
     let links = last_links us nodes row m (n + k) in
     let w : Write = write_of (get_or us (n + k) 0) (encode_node (fields_of (get_or nodes (m - suc (n + k)) root_node) (entry links last)) (get_or row (m - suc (n + k)) [])) NewRecord in (
       r.0 ++ (w ∷ []),
-      ap (λ (j : ℕ). new_writes (last_links us nodes row m j) last) e
-          ∙ ap (λ (x : List Write). x ++ (w ∷ [])) r.1
-          ∙ append_assoc (new_writes (last_links us nodes row m n) last) r.0 (w ∷ []),
+      rw (e, r.1) (append_assoc (new_writes (last_links us nodes row m n) last) r.0 (w ∷ [])),
     )
 
 pub begun : {s : State} {nodes : List Node} {row : List (List ℕ)} {marks : List ℕ} {count last left : ℕ} → left ≡ length nodes → s.power ≡ true →
@@ -98,13 +85,6 @@ pub begun : {s : State} {nodes : List Node} {row : List (List ℕ)} {marks : Lis
 begun {s = s} {nodes = nodes} {left = left} e o =
     let z : length nodes - left ≡ 0 = omega (arith, e) in
     record { within = omega (arith, e); rest = rw z; leads = rw z; ran = rw z (ran_none s.slots s refl o) }
-
-module _ {s : Slots} {nodes : List Node} {row : List (List ℕ)} {marks : List ℕ} {count last left from next : ℕ} {t : State}
-    (g : Going s nodes row marks count last left from next t) where
-  pub ended : left ≡ 0 → Laid s (links_for (open_slots marks count) nodes row) last (Ok next) t
-  ended z =
-      let e : length nodes - left ≡ length nodes = omega arith in
-      (rw e at g.leads, rw e at g.ran)
 
 module _ {s : State} {nodes : List Node} {row : List (List ℕ)} {marks : List ℕ} {count last from next : ℕ} {t : State} {ns ns' : List Node} {vs' : List (List ℕ)} {x : Node} {y : List ℕ}
     (g : Going s.slots nodes row marks count last (length ns) from next t) (w : Drawn nodes row ns ns' vs' x y) (able : Able s count (length nodes) marks) where
@@ -142,14 +122,14 @@ module _ {s : State} {nodes : List Node} {row : List (List ℕ)} {marks : List �
         let n = length nodes - length ns' in
         let q : n + length ns' ≡ length nodes = omega (arith, w.within) in
         let m = more_writes (open_slots marks count) nodes row (length nodes) last n (length ns') in
-        ran_as (sym m.1 ∙ ap (λ (j : ℕ). new_writes (last_links (open_slots marks count) nodes row (length nodes) j) last) q) (ran_cut m.0 (went d))
+        rw q at (ran_as (sym m.1) (ran_cut m.0 (went d)))
 
     pub again : {v : State} → Stepped t (write_of f record_here NewRecord) (Ok tt) v → Going s.slots nodes row marks count last (length ns') (f + 1) f v
     again d =
         let c : from + (count - from) - (f + 1) ≡ count - (f + 1) = omega (arith, slot_small, first_open.low) in
         record {
           within = omega (arith, w.within);
-          rest = sym (rw (← c) here.1) ∙ ap (λ (j : ℕ). drop j (open_slots marks count)) (sym one_less);
+          rest = rw (one_less, ← c) (sym here.1);
           leads = rw one_less (sym here.0);
           ran = went d;
         }

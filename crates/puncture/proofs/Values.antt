@@ -1,9 +1,8 @@
 -- The values in a row, and the links that are made from them.
-use Rattle.std.proofs.Common.{◌≡◌, ℕ, zero, suc, ◌+◌, ◌-◌, ◌^◌, ◌<◌, ◌≤◌, List, [], ◌∷◌, ◌++◌, length, get_or, map, drop, Some, sym, refl, ap, ◌∙◌, subst, inl, inr, arith}
-use Rattle.std.proofs.lemmas.List.{drop_more}
+use Rattle.std.proofs.Common.{◌≡◌, ℕ, zero, suc, ◌+◌, ◌-◌, ◌^◌, ◌<◌, ◌≤◌, List, [], ◌∷◌, ◌++◌, length, get_or, map, drop, Some, refl, ap, ◌∙◌, arith}
+use Rattle.std.proofs.lemmas.List.{drop_more, get_or_append_left, get_or-map, length-map}
 use Rattle.tree.specs.declared.Node.{Node}
 use Rattle.tree.specs.Nodes.{most_levels, root_node, Above}
-use Rattle.tree.specs.Cover.{In}
 use Rattle.tree.specs.Puncture.{siblings_from, Listed}
 use Rattle.tree.specs.Values.{valued}
 use Rattle.tree.proofs.Members.{range}
@@ -11,12 +10,11 @@ use Rattle.tree.proofs.Places.{under_of_node}
 use Rattle.tree.proofs.Keys.{sibling_lies}
 use Rattle.rules.specs.Files.{links_in}
 use Rattle.puncture.specs.Laying.{backward, last_links, links_for}
+use Rattle.puncture.proofs.Open.{in_at}
 
 -- ---- the values
 pub value_at_is : (f : Node → List ℕ) (nodes : List Node) (rest : List (List ℕ)) (j : ℕ) → j < length nodes → get_or (map f nodes ++ rest) j [] ≡ f (get_or nodes j root_node)
-value_at_is f [] rest j h = absurd (omega arith)
-value_at_is f (y ∷ ys) rest zero h = refl
-value_at_is f (y ∷ ys) rest (suc j) h = value_at_is f ys rest j (omega arith)
+value_at_is f nodes rest j h = grind (arith, get_or_append_left, get_or-map, length-map)
 
 -- ---- the links
 last_are : (us : List ℕ) (nodes : List Node) (row : List (List ℕ)) (f : Node → List ℕ) → ((j : ℕ) → j < length nodes → get_or row j [] ≡ f (get_or nodes j root_node)) →
@@ -35,22 +33,17 @@ pub links_are : (us : List ℕ) (nodes : List Node) (row : List (List ℕ)) (f :
     links_for us nodes row ≡ links_in (backward us (length nodes)) (valued f nodes)
 links_are us nodes row f v =
     let z : length nodes - length nodes ≡ 0 = omega arith in
-    last_are us nodes row f v (length nodes) (omega arith) ∙ ap (λ (k : ℕ). links_in (backward us (length nodes)) (valued f (drop k nodes))) z
+    rw z at (last_are us nodes row f v (length nodes) (omega arith))
 
 -- ---- the first numbers of siblings fit a record
-node_at : (ys : List Node) (j : ℕ) → j < length ys → In (get_or ys j root_node) ys
-node_at [] j l = absurd (omega arith)
-node_at (y ∷ ys) zero l = inl refl
-node_at (y ∷ ys) (suc j) l = inr (node_at ys j (omega arith))
-
 pub siblings_small : (d n : ℕ) (x : Node) → Above d x n → (j : ℕ) → j < length (siblings_from d x n) → (get_or (siblings_from d x n) j root_node).first < 2 ^ d
 siblings_small d n x a j l =
     let y = get_or (siblings_from d x n) j root_node in
-    let s = sibling_lies d n x y a.is_node.shallow a.covers (node_at (siblings_from d x n) j l) in
+    let s = sibling_lies d n x y a.is_node.shallow a.covers (in_at (siblings_from d x n) root_node j l) in
     let r = range d 0 d 0 x (omega arith) (under_of_node d x a.is_node) in
     omega (arith, s.within.1, r.high)
 
 -- ---- what listing the siblings leaves to be written
 pub listed_fit : (d n : ℕ) (x : Node) (ys : List Node) → Listed d x n (Some ys) → (length ys ≤ most_levels) × ((j : ℕ) → j < length ys → (get_or ys j root_node).first < 2 ^ d)
 listed_fit d n x ys l =
-    (omega (arith, l.1, l.0.few), subst (λ (zs : List Node). (j : ℕ) → j < length zs → (get_or zs j root_node).first < 2 ^ d) (sym l.2) (siblings_small d n x l.0))
+    (omega (arith, l.1, l.0.few), rw l.2 (siblings_small d n x l.0))

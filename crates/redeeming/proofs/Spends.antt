@@ -12,7 +12,6 @@ use Rattle.tree.specs.Cover.{In}
 use Rattle.chain.specs.declared.Found.{Found}
 use Rattle.chain.specs.declared.Survey.{Survey}
 use Rattle.chain.specs.Reading.{Link}
-use Rattle.chain.specs.Listing.{between, marked_all}
 use Rattle.chain.specs.Sound.{nodes_of, last_slot as last_of}
 use Rattle.chain.proofs.Files.{to_sound}
 use Rattle.chain.proofs.Finds.{found_at, none_at}
@@ -48,10 +47,10 @@ module _ {k : Kit} {d : ℕ} {s : State} {ticket : List ℕ} {room count many : 
     calls_are = w.0.turns ∙ w.0.levels
 
     seals : (plain : List ℕ) → PlainOf (k.sealer.sealing key (heading_in ticket)) (sealed_in ticket) plain → Seals k d ticket x plain
-    seals plain p = record { short = p.short; sealing = sym (ap (λ (u : List ℕ). k.sealer.sealing u (heading_in ticket) plain) w.1) ∙ p.seals }
+    seals plain p = record { short = p.short; sealing = rw w.1 at p.seals }
 
     unseals : (plain : List ℕ) → Seals k d ticket x plain → PlainOf (k.sealer.sealing key (heading_in ticket)) (sealed_in ticket) plain
-    unseals plain p = record { short = p.short; seals = ap (λ (u : List ℕ). k.sealer.sealing u (heading_in ticket) plain) w.1 ∙ p.sealing }
+    unseals plain p = record { short = p.short; seals = rw w.1 p.sealing }
 
     pub stopped : (out : List ℕ) {h : Halt} → Unsealing (k.sealer.sealing key (heading_in ticket)) (sealed_in ticket) (number_in ticket) room (Err h) out →
         (joined : Bool) × Redeeming k d s ticket room (length marks) (Err h) (zeros room) s joined
@@ -90,15 +89,14 @@ module _ {k : Kit} {d : ℕ} {s : State} {ticket : List ℕ} {room count many : 
         pub done : {t : State} → Puncturing k d s.slots f front x back (number_in ticket) (Ok tt) t →
             (joined : Bool) × Redeeming k d s ticket room (length marks) (Ok (l, calls)) out t joined
         done p = elim p.ran [
-          | through e a c ↦ (true, opened f front x back o.0 p.taken z.hit (seals o.0 o.1) (ready p) a c refl (record { calls = calls; counted = w.0; is = ap (λ (j : ℕ). Ok (j, calls)) o.3 }) o.4)
+          | through e a c ↦ (true, opened f front x back o.0 p.taken z.hit (seals o.0 o.1) (ready p) a c refl (record { calls = calls; counted = w.0; is = rw o.3 }) o.4)
           | failed m h e c q ↦ absurd (cc)
         ]
 
 -- ---- before the chain is searched
 in_nodes : (x : Link) (xs : List Link) → In x xs → In x.node (nodes_of xs)
 in_nodes x [] i = absurd i
-in_nodes x (y ∷ ys) (inl q) = inl (ap (λ (l : Link). l.node) q)
-in_nodes x (y ∷ ys) (inr i) = inr (in_nodes x ys i)
+in_nodes x (y ∷ ys) i = grind (arith, in_nodes x ys)
 
 last_same : (i : ℕ) (xs : List Link) → last_of i xs ≡ last_slot i xs
 last_same i [] = refl
@@ -139,8 +137,8 @@ module _ (k : Kit) (d : ℕ) (s : State) (ticket : List ℕ) (room m : ℕ) wher
               large = a.large;
               wide = rw (size, l) a.wide;
               reads = c.reads;
-              finds = p.is ∙ ap (λ (j : ℕ). between j p.link p.back) (last_same 0 p.front);
+              finds = rw last_same at p.is;
               records = c.many;
-              marked = c.marked ∙ ap (λ (j : ℕ). marked_all (zeros j) f.1) (sym l);
+              marked = rw l c.marked;
             },
           )

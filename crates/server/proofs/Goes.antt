@@ -1,5 +1,5 @@
 -- The calls of a server, from the work that is done on its device: what is handed back, and that a past goes on.
-use Rattle.std.proofs.Common.{◌≡◌, ℕ, Bool, true, false, cond, List, length, Ok, Err, Result, sym, refl, ap, subst}
+use Rattle.std.proofs.Common.{◌≡◌, ℕ, Bool, true, false, cond, List, length, Ok, Err, Result, refl, ap}
 use Rattle.device.specs.Effects.{State}
 use Rattle.fault.specs.declared.Call.{Call}
 use Rattle.fault.specs.declared.Fault.{Fault}
@@ -45,7 +45,7 @@ handed_by m c (Err h) = by_power (is_no_power h.refusal) refl
 
 -- what a call did, told of the server that it handed back
 moved : {D G S : Type 0} {m : Running D G S} {c : Call} {o : Outcome} {r : Answered D G S} (P : Outcome → D → Type 0) → Handed m c o r → P o m.device → P (outcome_in r) (device_of r)
-moved {m = m} {r = r} P h did = subst (P (outcome_in r)) (sym h.device) (subst (λ x. P x m.device) (sym h.outcome) did)
+moved P h did = rw (h.device, h.outcome) did
 
 module _ {D G S : Type 0} (means : D → State) (k : Kit) (lawful : Lawful k) where
   served : {c : Call} {Did : Outcome → State → Bool → Type 0} {deed : Outcome → Bool → Deed} (me : Running D G S) (device : D) (a : Result (ℕ × ℕ) Fault) →
@@ -55,7 +55,7 @@ module _ {D G S : Type 0} (means : D → State) (k : Kit) (lawful : Lawful k) wh
   served {c = c} {Did = Did} {deed = deed} me device a goes (o, e, (x, did)) =
       let m : Running D G S = record { device = device; generator = me.generator; sealer = me.sealer } in
       let r : Answered D G S = answered_by m a in
-      let h : Handed m c o r = subst (λ y. Handed m c o (answered_by m y)) (sym e) (handed_by m c o) in
+      let h : Handed m c o r = rw e (handed_by m c o) in
       let told : Did (outcome_in r) (means (device_of r)) x = moved (λ y d. Did y (means d) x) h did in
       record {
         counts = x;
@@ -64,8 +64,7 @@ module _ {D G S : Type 0} (means : D → State) (k : Kit) (lawful : Lawful k) wh
         same_sealer = h.sealer;
         fault = h.fault;
         past = λ root name b p.
-            subst (λ y. Past k tree_levels root name y (means (device_of r)) (fed b (deed (outcome_in r) x))) h.mode
-            (goes root name b (outcome_in r) (means (device_of r)) x p told);
+            rw h.mode at (goes root name b (outcome_in r) (means (device_of r)) x p told);
         lawful = lawful;
         law = law_holds;
       }
@@ -86,13 +85,12 @@ module _ {D G S : Type 0} (means : D → State) (k : Kit) (lawful : Lawful k) wh
       MakeWithin k (means me.device) root name a (means device) →
       MakeCall means k me root name (started_by (record { device = device; generator = me.generator; sealer = me.sealer }) a)
   make_answered me device root name a lr ln (Ok u, e, (headed, did)) =
-      let stands = subst (Making k tree_levels (means me.device) root name (Ok tt) (means device)) (done_headed did) did in
+      let stands = rw (done_headed did) at did in
       rw e (serving.made (record { device = device; generator = me.generator; sealer = me.sealer }) refl refl refl stands
       (pasts.made (means me.device) (Ok tt) (means device) lr ln stands))
   make_answered me device root name a lr ln (Err h, e, (headed, did)) =
       rw e (serving.unmade (record { device = device; generator = me.generator; sealer = me.sealer }) h headed refl refl refl did
-      (λ q. pasts.made (means me.device) (Err h) (means device) lr ln
-      (subst (Making k tree_levels (means me.device) root name (Err h) (means device)) q did)))
+      (λ q. pasts.made (means me.device) (Err h) (means device) lr ln (rw q at did)))
 
   pub reopen_answered : (me : Cold D G S) (device : D) (marks : ℕ) (a : Result (Unit {0}) Fault) →
       ReopenWithin k (means me.device) marks a (means device) →

@@ -1,7 +1,7 @@
 use Rattle.std.proofs.Common.{◌∙◌}
 use Rattle.std.proofs.lemmas.Result.{err_from_is_err_and}
 use Rattle.steps.proofs.Plans.{done_power, done_long}
-use Rattle.opening.proofs.Swept.{swept_more, swept_cut, swept_all}
+use Rattle.opening.proofs.Swept.{swept_more, swept_cut}
 use Rattle.opening.proofs.sweep.Goals as goal
 
 pub returns-in_err-sweep_slot : goal.returns-in_err-sweep_slot
@@ -19,8 +19,3 @@ loop-i-preserved g c =
       done_long ran ∙ c.loop-i.invariant.1,
       λ xs e long. swept_more _ _ _ c.args.marks.now xs c.args.count c.loop-i.i _ pre.0 c.loop-i.auto.i c.loop-i-test.true e long (c.loop-i.invariant.2 xs e long) ran,
     )
-
-pub returns : goal.returns
-returns g c =
-    let pre = c.requires in
-    λ xs e long. swept_all _ _ xs c.args.count c.loop-i.i pre.0 c.loop-i-test.false (c.loop-i.invariant.2 xs e long)

@@ -1,10 +1,10 @@
-use Rattle.std.proofs.Common.{◌≡◌, ◌<◌, take, length, inl, inr, sym, ap, ◌∙◌, arith}
+use Rattle.std.proofs.Common.{◌≡◌, ◌<◌, take, length, sym, ap, ◌∙◌, arith}
 use Rattle.std.proofs.lemmas.Result.{err_from_is_err_and}
 use Rattle.std.specs.Iterator.Adapters.{rev_source, zip_first, zip_second}
 use Rattle.std.specs.Slice.Iter.{iter_rest}
 use Rattle.layout.specs.Records.{encode_node}
 use Rattle.puncture.proofs.Open.{first_small}
-use Rattle.puncture.proofs.Laid.{all_ahead, begun, drawn, none_ahead, ended, never_full, fails, again}
+use Rattle.puncture.proofs.Laid.{all_ahead, begun, drawn, never_full, fails, again}
 use Rattle.puncture.proofs.write_records.Goals as goal
 
 pub loop-node-init : goal.loop-node-init
@@ -45,6 +45,3 @@ loop-node-preserved g c =
     let w = drawn c.loop-node.invariant.2 c.in-Some.ensures.steps.0.3 c.in-Some.ensures.steps.1.3 in
     let b = c.encode_node.ensures.is ∙ ap (λ x. encode_node x c.in-Some.value.now) c.of.ensures in
     (_, _, w.onward, λ a. again (c.loop-node.invariant.3 a) w a c.first_unmarked.ensures c.in-Some-first_unmarked.is (rw b at c.in_ok-write_at.ensures))
-
-pub returns : goal.returns
-returns g c = λ a. ended (c.loop-node.invariant.3 a) (none_ahead c.loop-node.invariant.2 (λ l. elim (c.in-None.ensures.steps.1 l) [ inl y ↦ inl (λ z. (y.3 z).0) | inr y ↦ inr (λ z. (y.3 z).0) ]))

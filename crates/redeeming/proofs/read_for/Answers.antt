@@ -3,7 +3,7 @@ use Rattle.std.proofs.lemmas.Result.{err_from_is_err_and}
 use Rattle.tree.specs.Nodes.{tree_levels}
 use Rattle.rules.specs.Kits.{kit_of}
 use Rattle.redeeming.specs.Steps.{asked_by}
-use Rattle.redeeming.proofs.Checks.{not_of, is_of, survey_err, check_err, unfitting, check_ok}
+use Rattle.redeeming.proofs.Checks.{is_of, survey_err, check_err, check_ok}
 use Rattle.redeeming.proofs.read_for.Goals as goal
 
 pub returns-in_err-survey : goal.returns-in_err-survey
@@ -11,14 +11,6 @@ returns-in_err-survey g c = λ some wide.
     let p = err_from_is_err_and c.from_residual.result c.from_residual.ensures.1 in
     let n = c.numbers_of-numbers.ensures in
     rw (p.1, p.2) (survey_err (kit_of (g.G.Generator.meaning c.args.generator.now) (g.S.Sealer.meaning c.args.sealer.now)) tree_levels _ c.args.bytes.now wide some c.asked.result (rw n at c.in_err-survey.ensures.is))
-
-pub returns-in_default : goal.returns-in_default
-returns-in_default g c = λ some wide.
-    let h = c.plain.ensures in
-    let n = c.numbers_of-numbers.ensures in
-    let o = c.overhead.ensures in
-    let b = not_of _ _ c.args.bytes.now (rw o at c.of-ticket.ensures) c.in_default.is in
-    rw h (unfitting (kit_of (g.G.Generator.meaning c.args.generator.now) (g.S.Sealer.meaning c.args.sealer.now)) tree_levels _ c.args.bytes.now wide some c.asked.result (rw n at c.in_ok-survey.ensures.is) (rw n at c.read_marking.ensures.marks) b)
 
 pub returns-in_err-check : goal.returns-in_err-check
 returns-in_err-check g c = λ some wide.

@@ -2,7 +2,4 @@ use Rattle.redeeming.proofs.Checks.{decides_same}
 use Rattle.redeeming.proofs.Ticket.bears.Goals as goal
 
 pub returns : goal.returns
-returns c =
-    let v = c.self.view_is in
-    let d = decides_same c.same_bytes.result _ _ c.same_bytes.ensures.0 c.same_bytes.ensures.1 in
-    rw (← v) d
+returns c = rw (← c.self.view_is) (decides_same c.same_bytes.result _ _ c.same_bytes.ensures.0 c.same_bytes.ensures.1)
