@@ -4,8 +4,8 @@ use Rattle.image.specs.declared.ByteImage.{ByteImage}
 use Rattle.sectors.specs.declared.SectorImage.{SectorImage}
 use Rattle.memory.specs.declared.Memory.{Memory}
 use Rattle.journal.specs.declared.Journal.{Journal}
-use Rattle.medium.specs.declared.Cut.{Cut}
-use Rattle.medium.specs.Rows.{Row}
+use Rattle.row.specs.declared.Cut.{Cut}
+use Rattle.row.specs.Rows.{Row}
 use Rattle.beds.specs.declared.Either.{Either}
 use Rattle.beds.specs.declared.Either.TheVariants.{First, Second}
 use Rattle.beds.specs.declared.Medium.{Medium}

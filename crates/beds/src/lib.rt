@@ -9,8 +9,8 @@ ghost use Rattle.beds.specs.Reads.{slot_in};
 use device::{DeviceFault, ReadSlots, SLOT_SIZE, TearSlots, WriteSlots};
 use image::ByteImage;
 use journal::Journal;
-use medium::Cut;
 use memory::Memory;
+use row::Cut;
 use sectors::SectorImage;
 
 // An enum of our own, and not that of the library's crate `either`: only crate device could give its traits to that one, and would stand on

@@ -23,6 +23,7 @@ pub fn block(key: &[u8; 32], counter: u32, nonce: &[u8; 12], out: &mut [u8; 64])
 
 /// Fills two buffers with the halves of the block of `key`, `counter` and `nonce`.
 // Apart from `block`: one function for both went through an array of sums, and took 168 ns a block in place of 142; plain C takes 164.
+#[tactic(auto, using(crate::proofs::Blocks::halves), unfolding(crate::specs::Cipher::block_of))]
 pub fn halves(
     key: &[u8; 32],
     counter: u32,
@@ -55,6 +56,7 @@ fn worked(first: &[u32; 16]) -> [u32; 16]
 // Made as an array of chunks, the sums take 168 ns a block in place of 142, and plain C 164; over `chunks_exact_mut` an
 // invariant cannot name `out`.
 #[inline(always)]
+#[tactic(auto, using(crate::proofs::Blocks::sums), unfolding(crate::specs::Cipher::added, crate::specs::Cipher::serialized))]
 fn write_sums(a: &[u32], b: &[u32], out: &mut [u8])
     requires rows { length a.now ≡ length b.now }
     requires room { length out.old ≡ 4 * length a.now }
@@ -67,6 +69,7 @@ fn write_sums(a: &[u32], b: &[u32], out: &mut [u8])
 }
 
 // The start block: the text, the key, the counter and the nonce as little-endian words.
+#[tactic(auto, using(crate::proofs::Blocks::words_read), unfolding(crate::specs::Cipher::start_of))]
 fn start(key: &[u8; 32], counter: u32, nonce: &[u8; 12]) -> [u32; 16]
     ensures { result ≡ start_of key.now counter nonce.now }
 {

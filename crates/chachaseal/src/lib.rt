@@ -9,8 +9,9 @@ ghost use Rattle.chachaseal.specs.Promises.{lawful_scheme, lawful_sealer};
 use hmac::Hmac;
 use octets::Wiped;
 use refusal::Refusal;
-use sealer::{HEADING, OVERHEAD_LIMIT, Sealer};
-use sealing::Scheme;
+use scheme::Scheme;
+use sealer::Sealer;
+use ticket::{HEADING, MAX_OVERHEAD};
 
 // The number by which trees name this sealer.
 const NUMBER: u8 = 1;
@@ -56,7 +57,7 @@ impl Scheme for ChaChaSealer {
         key: &[u8; 32],
         heading: &[u8; HEADING],
         bytes: &[u8],
-        out: &mut [u8; OVERHEAD_LIMIT],
+        out: &mut [u8; MAX_OVERHEAD],
         pad: &mut [u8; 64],
     ) {
         let mut mac = Hmac::new(key, pad);
@@ -90,7 +91,7 @@ impl Sealer for ChaChaSealer {
         pad: &mut [u8; 64],
     ) -> Result<usize, Refusal> {
         let guard = Wiped { pad };
-        sealing::seal(self, key, heading, plain, out, guard.pad)
+        scheme::seal(self, key, heading, plain, out, guard.pad)
     }
 
     fn open(
@@ -102,6 +103,6 @@ impl Sealer for ChaChaSealer {
         pad: &mut [u8; 64],
     ) -> Result<Option<usize>, Refusal> {
         let guard = Wiped { pad };
-        sealing::open(self, key, heading, sealed, out, guard.pad)
+        scheme::open(self, key, heading, sealed, out, guard.pad)
     }
 }

@@ -1,5 +1,5 @@
 -- A file laid out as the cover of the spent numbers is read back.
-use Rattle.std.proofs.Common.{◌≡◌, ℕ, suc, ◌+◌, ◌-◌, ◌*◌, ◌/◌, ◌<◌, ◌≤◌, true, false, leb, ◌⊎◌, List, [], ◌∷◌, get_or, Some, None, Option, sym, refl, ap, ◌∙◌, subst, ap₂, inl, inr, ⊎_elim, arith, pow_pos}
+use Rattle.std.proofs.Common.{◌≡◌, ℕ, suc, ◌+◌, ◌-◌, ◌*◌, ◌/◌, ◌<◌, ◌≤◌, true, false, leb, ◌⊎◌, List, [], ◌∷◌, get_or, Some, None, Option, Ok, sym, refl, ap, ◌∙◌, subst, ap₂, inl, inr, ⊎_elim, arith, pow_pos}
 use Rattle.std.proofs.lemmas.Bool.{cases_Bool, le-leb}
 use Rattle.device.specs.Effects.{Slots}
 use Rattle.layout.specs.declared.Head.{Head}
@@ -14,13 +14,13 @@ use Rattle.tree.proofs.Descent.{same_quot}
 use Rattle.tree.proofs.Exact.{exactly, in_order}
 use Rattle.tree.proofs.Places.{characterised}
 use Rattle.tree.proofs.Shapes.{multiple, node_to, halved}
-use Rattle.chain.specs.Reading.{Link, File.sound, node_in, link_at, end_of, is_twin, after_twin, may_follow, file_of}
-use Rattle.chain.specs.Listing.{first_slot}
+use Rattle.chain.specs.Reading.{Link, node_in, link_at, end_of, is_twin, after_twin, may_follow, file_of}
+use Rattle.chain.specs.Listing.{entry}
 use Rattle.chain.specs.Sound.{nodes_of, Chained, Linked, Laid, FileLaws}
 use Rattle.chain.proofs.Order.{twin_from}
 use Rattle.chain.proofs.Walks.{laid}
 use Rattle.chain.proofs.Chains.{chained_slots, chained_distinct}
-use Rattle.chain.proofs.Files.{to_sound, of_sound, to_bare}
+use Rattle.chain.proofs.Files.{to_sound, of_sound, file_fault, to_bare}
 use Rattle.chain.proofs.Finds.{found_at, none_at}
 
 -- two nodes of one depth that share a number are one
@@ -77,12 +77,12 @@ module _ (d : ℕ) (spent : List ℕ) (x y : Node) (t : Twins d x y) where
 module _ (d : ℕ) (s : Slots) where
   pub laid_chained : (xs : List Link) (from : ℕ) (b : Option Node) → Linked d s xs → ((y : Node) → In y (nodes_of xs) → IsNode d y) →
       ((y : Node) → In y (nodes_of xs) → from ≤ y.first) → Ordered d (nodes_of xs) → ((y : Node) → In y (nodes_of xs) → after_twin d b y ≡ false) →
-      ((x y : Node) → In x (nodes_of xs) → In y (nodes_of xs) → Twins d x y → ⊥) → Chained d s from b (first_slot xs) xs
+      ((x y : Node) → In x (nodes_of xs) → In y (nodes_of xs) → Twins d x y → ⊥) → Chained d s from b (entry xs 0) xs
   laid_chained [] from b l nodes f o a t = refl
   laid_chained (x ∷ xs) from b l nodes f o a t =
       let st = l.0 in
       let bs : List ℕ = get_or s x.slot [] in
-      let fs = fields_of x.node (first_slot xs) in
+      let fs = fields_of x.node (entry xs 0) in
       let e : node_of d bs ≡ Some fs = ap (node_of d) st.bytes ∙ node_trip.back d fs x.value st.fits in
       let k = laid d bs fs e in
       let n : node_in bs ≡ x.node = ap (λ (z : NodeFields). node_at z.depth z.first) k.fields in
@@ -101,7 +101,7 @@ module _ (d : ℕ) (s : Slots) where
       (st.above, st.below, link, k.some, subst (λ (z : Node). may_follow d from b z ≡ true) (sym n) may, subst P (sym k.fields) rest)
 
 read_back : (d : ℕ) (s : Slots) (h : Head) (xs : List Link) (spent : List ℕ) → Laid d s h xs → nodes_of xs ≡ cover d spent → ((n : ℕ) → In n spent → n < h.issued) →
-    file_of d h.numbers s ≡ sound h xs
+    file_of d h.numbers s ≡ Ok (h, xs)
 read_back d s h xs spent l e u =
     let back : (y : Node) → In y (nodes_of xs) → In y (cover d spent) = λ y i. subst (λ (zs : List Node). In y zs) e i in
     let nodes : (y : Node) → In y (nodes_of xs) → IsNode d y = λ y i. ((characterised d spent y).0 (back y i)).0 in
@@ -125,6 +125,7 @@ read_back d s h xs spent l e u =
 pub file_laws : FileLaws
 file_laws = record {
   exact = λ d n s h xs. (to_sound d n s h xs, of_sound d n s h xs);
+  faults = file_fault;
   lacking = to_bare;
   back = read_back;
   found = found_at;

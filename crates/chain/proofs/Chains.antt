@@ -1,22 +1,20 @@
 -- A walk that succeeds, as a chain that stands in the slots; and what holds of every chain.
-use Rattle.std.proofs.Common.{◌≡◌, ℕ, zero, suc, ◌+◌, ◌-◌, ◌^◌, ◌<◌, ◌≤◌, Bool, true, false, cond, ◌&&◌, ltb, leb, ◌≢◌, List, [], ◌∷◌, ◌++◌, length, get_or, is_some, Some, None, Option, sym, refl, ap, ◌∙◌, subst, inl, inr, ⊎_elim, arith}
+use Rattle.std.proofs.Common.{◌≡◌, ℕ, zero, suc, ◌+◌, ◌-◌, ◌^◌, ◌<◌, ◌≤◌, Bool, true, false, cond, ◌&&◌, ltb, leb, ◌≢◌, List, [], ◌∷◌, length, get_or, is_some, Some, None, Option, Ok, Err, Result, sym, refl, ap, ◌∙◌, subst, inl, inr, ⊎_elim, arith}
 use Rattle.std.proofs.lemmas.Bool.{cases_Bool, and_parts, and_from, leb-true}
+use Rattle.refusal.specs.declared.Refusal.TheVariants.{BadLink}
+use Rattle.fault.specs.declared.Halt.{Halt}
+use Rattle.fault.specs.Faults.{placed}
 use Rattle.device.specs.Effects.{Slots}
 use Rattle.layout.specs.declared.NodeFields.{NodeFields}
 use Rattle.layout.specs.Records.{node_fields, node_of}
 use Rattle.tree.specs.declared.Node.{Node}
 use Rattle.tree.specs.Nodes.{IsNode}
 use Rattle.tree.specs.Cover.{In, Ordered, Distinct}
-use Rattle.chain.specs.Reading.{Link, Walk, Walk.broken, Walk.walked, consed, node_in, link_at, end_of, may_follow, slots_of, walk}
+use Rattle.tree.proofs.Shapes.{tested_node}
+use Rattle.chain.specs.Reading.{Link, consed, node_in, link_at, end_of, may_follow, slots_of, walk}
 use Rattle.chain.specs.Sound.{nodes_of, Chained}
-use Rattle.chain.proofs.Order.{end_within, end_after, tested_node}
+use Rattle.chain.proofs.Order.{end_within, end_after}
 use Rattle.chain.proofs.Walks.{walk_end, walk_on}
-
--- a slot of the first links is one of all
-pub slot_left : (j : ℕ) (xs ys : List Link) → In j (slots_of xs) → In j (slots_of (xs ++ ys))
-slot_left j [] ys m = absurd m
-slot_left j (x ∷ xs) ys (inl q) = inl q
-slot_left j (x ∷ xs) ys (inr m) = inr (slot_left j xs ys m)
 
 -- what a record's test lets through is a node
 some_record : (b : Bool) (x : NodeFields) → is_some (cond {A = Option NodeFields} b (Some x) None) ≡ true → b ≡ true
@@ -27,17 +25,17 @@ pub some_node : (d : ℕ) (bs : List ℕ) → is_some (node_of d bs) ≡ true �
 unfolding node_of
 some_node d bs e = grind (arith, some_record, and_parts, tested_node)
 
-record Split (x : Link) (w : Walk) (xs : List Link) : Type 0 where
+record Split (x : Link) (w : Result (List Link) Halt) (xs : List Link) : Type 0 where
   rest : List Link
-  is : w ≡ walked rest
+  is : w ≡ Ok rest
   all : x ∷ rest ≡ xs
 
-split : (x : Link) (w : Walk) (xs : List Link) → consed x w ≡ walked xs → Split x w xs
-split x (broken i) xs e = absurd (cc)
-split x (walked ys) xs e = record { rest = ys; is = refl; all = cc }
+split : (x : Link) (w : Result (List Link) Halt) (xs : List Link) → consed x w ≡ Ok xs → Split x w xs
+split x (Err h) xs e = absurd (cc)
+split x (Ok ys) xs e = record { rest = ys; is = refl; all = cc }
 
 module _ (d : ℕ) (s : Slots) where
-  pub to_chained : (k from : ℕ) (b : Option Node) (last i : ℕ) (xs : List Link) → walk d k s from b last i ≡ walked xs → Chained d s from b i xs
+  pub to_chained : (k from : ℕ) (b : Option Node) (last i : ℕ) (xs : List Link) → walk d k s from b last i ≡ Ok xs → Chained d s from b i xs
   unfolding walk
   to_chained k from b last zero xs e = let q : [] ≡ xs = cc in subst (Chained d s from b zero) q refl
   to_chained zero from b last (suc i) xs e = absurd (cc)
@@ -49,11 +47,11 @@ module _ (d : ℕ) (s : Slots) where
       subst (Chained d s from b (suc i)) p.all
       (omega arith, leb-true (suc (suc i)) (length s) t, refl, v.0, v.1, to_chained k _ _ (suc i) (node_fields (get_or s (suc i) [])).next p.rest p.is))
       (λ (u : (is_some (node_of d (get_or s (suc i) [])) && may_follow d from b (node_in (get_or s (suc i) []))) ≡ false).
-      let f : broken (suc i) ≡ walked xs = rw (t, u) at e in
+      let f : Err (placed BadLink (suc i)) ≡ Ok xs = rw (t, u) at e in
       absurd (cc))
       (cases_Bool (is_some (node_of d (get_or s (suc i) [])) && may_follow d from b (node_in (get_or s (suc i) [])))))
       (λ (t : ltb (suc i) (length s) ≡ false).
-      let f : broken last ≡ walked xs = rw t at e in
+      let f : Err (placed BadLink last) ≡ Ok xs = rw t at e in
       absurd (cc))
       (cases_Bool (ltb (suc i) (length s)))
 
@@ -62,7 +60,7 @@ module _ (d : ℕ) (s : Slots) where
   starts from b y m = leb-true _ _ (and_parts (leb from y.first) _ m).0
 
   pub from_chained : (k from : ℕ) (b : Option Node) (last i : ℕ) (xs : List Link) → from ≤ 2 ^ d → 2 ^ d < from + k → Chained d s from b i xs →
-      walk d k s from b last i ≡ walked xs
+      walk d k s from b last i ≡ Ok xs
   from_chained k from b last i [] l f c = ap (walk d k s from b last) c ∙ walk_end d s k from b last
   from_chained k from b last i (x ∷ xs) l f c =
       let y = node_in (get_or s i []) in
@@ -75,7 +73,7 @@ module _ (d : ℕ) (s : Slots) where
       ap (λ (m : ℕ). walk d m s from b last i) more
       ∙ walk_on d s (k - 1) from b last i ne c.1 (and_from _ _ c.3 c.4)
       ∙ ap (consed (link_at s i)) w
-      ∙ ap (λ (z : Link). walked (z ∷ xs)) c.2
+      ∙ ap (λ (z : Link). Ok (z ∷ xs)) c.2
 
   pub chained_from : (xs : List Link) (from : ℕ) (b : Option Node) (i : ℕ) → Chained d s from b i xs → (y : Node) → In y (nodes_of xs) → from ≤ y.first
   chained_from [] from b i c y m = absurd m

@@ -60,7 +60,7 @@ in_unmarked (suc n) row from i l u e = ⊎_elim
     (cases_eq i from)
 
 pub free_are : FreeAre
-free_are m count from xs i r f = grind (arith, length-replicate, of_unmarked, marked_in, in_unmarked, unmarked_off, mark_laws)
+free_are m count from xs i r = grind (arith, length-replicate, of_unmarked, marked_in, in_unmarked, unmarked_off, mark_laws)
 
 -- ---- how many there are
 pub same_unmarked : (n from : ℕ) (row other : List ℕ) → ((k : ℕ) → from ≤ k → is_marked row k ≡ is_marked other k) → unmarked row from n ≡ unmarked other from n

@@ -1,3 +1,4 @@
+pub mod Members
 pub mod Order
 pub mod Standing
 pub mod Walks

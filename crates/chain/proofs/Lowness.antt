@@ -23,7 +23,7 @@ lowest_up d m [] = omega arith
 lowest_up d m (x ∷ xs) = let a = step_up d m x.node in let b = lowest_up d (step d m x.node) xs in omega arith
 
 under : (d m n : ℕ) (x : Node) → m ≤ n → n < step d m x → Covers d x n
-under d m n x l = step_cases d m x (λ k. n < k → Covers d x n) (λ f u. (omega arith, omega arith)) (λ f u. absurd (omega arith))
+under d m n x l = grind (arith, step_cases)
 
 -- the numbers before it are covered
 pub lowest_covered : (d m : ℕ) (xs : List Link) (n : ℕ) → m ≤ n → n < lowest_from d m xs → Reached d (nodes_of xs) n

@@ -1,16 +1,15 @@
 -- A record of a file that is sound, from the slot that it stands in.
 use Rattle.std.proofs.Common.{◌≡◌, ℕ, ◌<◌, List, [], ◌∷◌, ◌++◌, length, get_or, Some, None, Option, sym, refl, ap, ◌∙◌, subst, inl}
-use Rattle.std.proofs.lemmas.List.{map-append}
 use Rattle.device.specs.Effects.{Slots}
 use Rattle.layout.specs.declared.Head.{Head}
 use Rattle.layout.specs.declared.Numbers.{Numbers}
 use Rattle.layout.specs.Records.{node_fields}
 use Rattle.tree.specs.declared.Node.{Node}
 use Rattle.tree.specs.Nodes.{IsNode}
-use Rattle.tree.specs.Cover.{In}
 use Rattle.tree.proofs.Members.{in_right}
-use Rattle.chain.specs.Reading.{Link, end_of, node_in, link_at, slots_of}
-use Rattle.chain.specs.Sound.{nodes_of, Chained, SoundFile}
+use Rattle.chain.specs.Reading.{Link, end_of, node_in, link_at}
+use Rattle.chain.specs.Sound.{Chained, SoundFile}
+use Rattle.chain.proofs.Members.{in_map}
 
 -- it has the value that stands in its slot
 link_value : (d : ℕ) (s : Slots) (front : List Link) (x : Link) (back : List Link) (from : ℕ) (b : Option Node) (i : ℕ) → Chained d s from b i (front ++ x ∷ back) → x ≡ link_at s x.slot
@@ -26,9 +25,9 @@ pub record Standing (d : ℕ) (s : Slots) (x : Link) : Type 0 where
 
 pub standing : {d : ℕ} {numbers : Numbers} {s : Slots} {h : Head} {xs : List Link} (front : List Link) (x : Link) (back : List Link) →
     SoundFile d numbers s h xs → xs ≡ front ++ x ∷ back → Standing d s x
-standing {d = d} {s = s} {h = h} front x back f split =
+standing {d = d} {s = s} {h = h} {xs = xs} front x back f split =
     record {
       link = link_value d s front x back 0 None h.first (subst (Chained d s 0 None h.first) split f.chained);
-      within = (f.slots x.slot (subst (In x.slot) (sym (ap slots_of split ∙ map-append (λ (z : Link). z.slot) front (x ∷ back))) (in_right x.slot (slots_of front) (slots_of (x ∷ back)) (inl refl)))).1;
-      node = f.nodes x.node (subst (In x.node) (sym (ap nodes_of split ∙ map-append (λ (z : Link). z.node) front (x ∷ back))) (in_right x.node (nodes_of front) (nodes_of (x ∷ back)) (inl refl)));
+      within = (f.slots x.slot (in_map (λ (z : Link). z.slot) x xs (rw split (in_right x front (x ∷ back) (inl refl))))).1;
+      node = f.nodes x.node (in_map (λ (z : Link). z.node) x xs (rw split (in_right x front (x ∷ back) (inl refl))));
     }

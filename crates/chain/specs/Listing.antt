@@ -1,26 +1,24 @@
 -- What a server asks of a chain, in terms of the list of its records.
 use Rattle.std.specs.Prelude.{ℕ, ◌+◌, max, Bool, cond, ◌&&◌, List, [], ◌∷◌, length, Some, None, Ok, Err, Option, Result, nat_le, nat_lt}
 use Rattle.fault.specs.declared.Halt.{Halt}
-use Rattle.fault.specs.Faults.{placed}
-use Rattle.refusal.specs.declared.Refusal.TheVariants.{BadLink}
 use Rattle.marks.specs.Rows.{with_mark}
 use Rattle.tree.specs.declared.Node.{Node}
 use Rattle.chain.specs.declared.Found.{Found}
 use Rattle.chain.specs.declared.Tally.{Tally}
-use Rattle.chain.specs.Reading.{Link, Walk, Walk.broken, Walk.walked, end_of, lowest_from}
+use Rattle.chain.specs.Reading.{Link, end_of, lowest_from}
 
 -- whether a node covers a number
 abbrev pub is_under : ℕ → Node → ℕ → Bool
 is_under d x n = nat_le x.first n && nat_lt n (end_of d x)
 
--- the slot of the first record, 0 where there is none
-abbrev pub first_slot : List Link → ℕ
-first_slot [] = 0
-first_slot (x ∷ xs) = x.slot
+-- the index that leads to the records, or on to i where there are none
+abbrev pub entry : List Link → ℕ → ℕ
+entry [] i = i
+entry (x ∷ xs) i = x.slot
 
 -- a record between the slot before it and the records after it
 abbrev pub between : ℕ → Link → List Link → Found
-between b x xs = record { slot = x.slot; before = b; node = x.node; next = first_slot xs }
+between b x xs = record { slot = x.slot; before = b; node = x.node; next = entry xs 0 }
 
 -- the record that covers n, with the slots of its neighbours: the slot b stands before the list
 abbrev pub find_in : ℕ → ℕ → ℕ → List Link → Option Found
@@ -46,15 +44,15 @@ counted d n t f = record {
 }
 
 -- the tally at the end of a walk of which the tally t is known when the slot b is read
-abbrev pub tally_of : ℕ → ℕ → Tally → ℕ → Walk → Result Tally Halt
-tally_of d n t b (broken i) = Err (placed BadLink i)
-tally_of d n t b (walked xs) = Ok (record { length = t.length + length xs; lowest = lowest_from d t.lowest xs; found = or_else t.found (find_in d n b xs) })
+abbrev pub tally_of : ℕ → ℕ → Tally → ℕ → Result (List Link) Halt → Result Tally Halt
+tally_of d n t b (Err h) = Err h
+tally_of d n t b (Ok xs) = Ok (record { length = t.length + length xs; lowest = lowest_from d t.lowest xs; found = or_else t.found (find_in d n b xs) })
 
 -- the tally before the first record, of a file with so many numbers issued
 abbrev pub none_yet : ℕ → Tally
 none_yet m = record { length = 0; lowest = m; found = None }
 
 -- the row at the end of a walk
-abbrev pub row_of : List ℕ → Walk → List ℕ
-row_of row (broken i) = []
-row_of row (walked xs) = marked_all row xs
+abbrev pub row_of : List ℕ → Result (List Link) Halt → List ℕ
+row_of row (Err h) = []
+row_of row (Ok xs) = marked_all row xs

@@ -1,5 +1,8 @@
 -- Reading a key file: the head, then the chain of node records that begins at the head's first index.
-use Rattle.std.specs.Prelude.{ℕ, zero, suc, ◌+◌, ◌*◌, ◌%◌, ◌^◌, max, Bool, false, cond, not, ◌&&◌, List, [], ◌∷◌, map, length, is_some, Some, None, Option, ◌==◌, nat_le, nat_lt, slice_index_or}
+use Rattle.std.specs.Prelude.{ℕ, zero, suc, ◌+◌, ◌*◌, ◌%◌, ◌^◌, max, Bool, false, cond, not, ◌&&◌, List, [], ◌∷◌, map, length, is_some, Some, None, Option, Ok, Err, Result, ◌==◌, nat_le, nat_lt, slice_index_or}
+use Rattle.refusal.specs.declared.Refusal.TheVariants.{BadHead, BadLink, Uncovered}
+use Rattle.fault.specs.declared.Halt.{Halt}
+use Rattle.fault.specs.Faults.{plainly, placed}
 use Rattle.device.specs.Effects.{Slots}
 use Rattle.layout.specs.declared.Head.{Head}
 use Rattle.layout.specs.declared.Numbers.{Numbers}
@@ -34,14 +37,9 @@ after_twin d (Some x) y = is_twin d x y
 abbrev pub may_follow : ℕ → ℕ → Option Node → Node → Bool
 may_follow d from before y = nat_le from y.first && not (after_twin d before y)
 
--- what a walk along the chain meets: a fault, with the slot read last, or the records
-pub data Walk : Type 0 where
-  broken : ℕ → Walk
-  walked : List Link → Walk
-
-abbrev pub consed : Link → Walk → Walk
-consed x (broken i) = broken i
-consed x (walked xs) = walked (x ∷ xs)
+abbrev pub consed : Link → Result (List Link) Halt → Result (List Link) Halt
+consed x (Ok xs) = Ok (x ∷ xs)
+consed x (Err f) = Err f
 
 -- the node that a slot's bytes name, whether or not they are a record
 abbrev pub node_in : List ℕ → Node
@@ -50,44 +48,47 @@ node_in bs = node_at (node_fields bs).depth (node_fields bs).first
 abbrev pub link_at : Slots → ℕ → Link
 link_at s i = record { slot = i; node = node_in (slice_index_or s i []); value = value_of (slice_index_or s i []) }
 
--- from the index i on, of at most `fuel` records, after the record `before` that ends at `from`; `last` is the slot read last.
+-- The records from the index i on, at most `fuel`, after the record `before` that ends at `from`; `last` is the slot read last. A fault
+-- in the chain is told with the slot that was read last.
 -- Each record ends after its predecessor, so in a tree of d levels the fuel 2 ^ d + 1 is never used up.
-unfoldable pub walk : ℕ → ℕ → Slots → ℕ → Option Node → ℕ → ℕ → Walk
-walk d fuel s from before last zero = walked []
-walk d zero s from before last (suc i) = broken last
+unfoldable pub walk : ℕ → ℕ → Slots → ℕ → Option Node → ℕ → ℕ → Result (List Link) Halt
+walk d fuel s from before last zero = Ok []
+walk d zero s from before last (suc i) = Err (placed BadLink last)
 walk d (suc fuel) s from before last (suc i) =
     cond (nat_lt (suc i) (length s))
     (cond (is_some (node_of d (slice_index_or s (suc i) [])) && may_follow d from before (node_in (slice_index_or s (suc i) [])))
     (consed (link_at s (suc i)) (walk d fuel s (end_of d (node_in (slice_index_or s (suc i) []))) (Some (node_in (slice_index_or s (suc i) []))) (suc i) (node_fields (slice_index_or s (suc i) [])).next))
-    (broken (suc i)))
-    (broken last)
+    (Err (placed BadLink (suc i))))
+    (Err (placed BadLink last))
 
 -- the lowest number from m on that lies under none of the links, which stand in increasing order; 2 ^ d where there is none
 abbrev pub lowest_from : ℕ → ℕ → List Link → ℕ
 lowest_from d m [] = m
 lowest_from d m (x ∷ xs) = lowest_from d (cond (nat_le x.node.first m) (max m (end_of d x.node)) m) xs
 
--- what a file is: at fault, by the first fault that applies, or a head and a chain
-pub data File : Type 0 where
-  bad_head : File
-  bad_link : ℕ → File
-  uncovered : ℕ → File
-  sound : Head → List Link → File
+-- what reading a file gives, where nothing is at fault: the head and the chain
+abbrev pub Sound : Type 0
+Sound = Head × List Link
 
-abbrev pub judged : ℕ → Head → Walk → File
-judged d h (broken i) = bad_link i
-judged d h (walked xs) = cond (nat_lt (lowest_from d h.issued xs) (2 ^ d)) (uncovered (lowest_from d h.issued xs)) (sound h xs)
+abbrev pub judged : ℕ → Head → Result (List Link) Halt → Result Sound Halt
+judged d h (Ok xs) = cond (nat_lt (lowest_from d h.issued xs) (2 ^ d)) (Err (placed Uncovered (lowest_from d h.issued xs))) (Ok (h, xs))
+judged d h (Err f) = Err f
+
+-- the chain behind a head
+abbrev pub chain_of : ℕ → Head → Slots → Result Sound Halt
+chain_of d h s = judged d h (walk d (suc (2 ^ d)) s 0 None 0 h.first)
 
 -- whether a head names these numbers
 abbrev pub bears : Head → Numbers → Bool
 bears h numbers = h.numbers.generator == numbers.generator && h.numbers.sealer == numbers.sealer
 
-abbrev pub headed : ℕ → Numbers → Slots → Option Head → File
-headed d numbers s None = bad_head
-headed d numbers s (Some h) = cond (bears h numbers) (judged d h (walk d (suc (2 ^ d)) s 0 None 0 h.first)) bad_head
+abbrev pub headed : ℕ → Numbers → Slots → Option Head → Result Sound Halt
+headed d numbers s None = Err (plainly BadHead)
+headed d numbers s (Some h) = cond (bears h numbers) (chain_of d h s) (Err (plainly BadHead))
 
--- the file in the slots s, of a tree of d levels, to a server whose generator and sealer have these numbers
-unfoldable pub file_of : ℕ → Numbers → Slots → File
+-- the file in the slots s, of a tree of d levels, to a server whose generator and sealer have these numbers: the first fault, or the
+-- head and the chain
+unfoldable pub file_of : ℕ → Numbers → Slots → Result Sound Halt
 file_of d numbers s = headed d numbers s (head_of d (slice_index_or s 0 []))
 
 -- the slots of the chain, and whether a slot is free: not the head's and not on the chain

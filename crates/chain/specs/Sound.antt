@@ -1,6 +1,10 @@
 -- What a file that is read is, in the words of the tree; and a file that is laid out as the cover of the spent numbers is read as that.
-use Rattle.std.specs.Prelude.{◌≡◌, ℕ, ◌+◌, ◌-◌, ◌^◌, ◌<◌, ◌≤◌, true, ◌↔◌, List, [], ◌∷◌, ◌++◌, map, length, get_or, is_some, Some, None, Option, slice_index_or}
+use Rattle.std.specs.Prelude.{◌≡◌, ℕ, ◌+◌, ◌-◌, ◌^◌, ◌<◌, ◌≤◌, true, ◌⊎◌, ◌↔◌, List, [], ◌∷◌, ◌++◌, map, length, get_or, is_some, Some, None, Option, Ok, Err, slice_index_or}
 use Rattle.octets.specs.Buffers.{zeros}
+use Rattle.refusal.specs.declared.Refusal.{Refusal}
+use Rattle.refusal.specs.declared.Refusal.TheVariants.{BadHead, BadLink, Uncovered}
+use Rattle.fault.specs.declared.Halt.{Halt}
+use Rattle.fault.specs.Faults.{placed}
 use Rattle.device.specs.Effects.{Slots}
 use Rattle.layout.specs.declared.Head.{Head}
 use Rattle.layout.specs.declared.Numbers.{Numbers}
@@ -10,9 +14,9 @@ use Rattle.marks.specs.Rows.{room_of, unmarked}
 use Rattle.tree.specs.declared.Node.{Node}
 use Rattle.tree.specs.Nodes.{IsNode, Covers}
 use Rattle.tree.specs.Cover.{In, Ordered, Reached, Distinct, cover}
-use Rattle.chain.specs.Reading.{Link, File.uncovered, File.sound, node_in, link_at, end_of, may_follow, slots_of, file_of}
+use Rattle.chain.specs.Reading.{Link, node_in, link_at, end_of, may_follow, slots_of, file_of}
 use Rattle.chain.specs.declared.Found.{Found}
-use Rattle.chain.specs.Listing.{first_slot, between, find_in, marked_all}
+use Rattle.chain.specs.Listing.{entry, between, find_in, marked_all}
 
 -- the nodes of the chain, in order
 abbrev pub nodes_of : List Link → List Node
@@ -51,6 +55,10 @@ pub record Bare (d : ℕ) (s : Slots) (n : ℕ) : Type 0 where
   pub chained : Chained d s 0 None head.first links
   pub lowest : Lowest d head.issued (nodes_of links) n
 
+-- what is told of a file that is at fault
+abbrev pub IsFileFault : Refusal → Type 0
+IsFileFault w = (w ≡ BadHead) ⊎ (w ≡ BadLink) ⊎ (w ≡ Uncovered)
+
 -- ---- a file as it is laid out
 pub record Stands (d : ℕ) (s : Slots) (x : Link) (next : ℕ) : Type 0 where
   pub above : 0 < x.slot
@@ -60,12 +68,12 @@ pub record Stands (d : ℕ) (s : Slots) (x : Link) (next : ℕ) : Type 0 where
 
 abbrev pub Linked : ℕ → Slots → List Link → Type 0
 Linked d s [] = Unit {0}
-Linked d s (x ∷ xs) = Stands d s x (first_slot xs) × Linked d s xs
+Linked d s (x ∷ xs) = Stands d s x (entry xs 0) × Linked d s xs
 
 pub record Laid (d : ℕ) (s : Slots) (h : Head) (xs : List Link) : Type 0 where
   pub bytes : get_or s 0 [] ≡ encode_head d h
   pub fits : HeadFits d h
-  pub first : h.first ≡ first_slot xs
+  pub first : h.first ≡ entry xs 0
   pub links : Linked d s xs
 
 -- ---- the record that covers a number
@@ -86,12 +94,14 @@ pub record FoundAt (d n b : ℕ) (xs : List Link) (f : Found) : Type 0 where
 -- ---- what is proved
 pub record FileLaws : Type 0 where
   -- what a sound file is, and nothing else is one
-  pub exact : (d : ℕ) (numbers : Numbers) (s : Slots) (h : Head) (xs : List Link) → file_of d numbers s ≡ sound h xs ↔ SoundFile d numbers s h xs
+  pub exact : (d : ℕ) (numbers : Numbers) (s : Slots) (h : Head) (xs : List Link) → file_of d numbers s ≡ Ok (h, xs) ↔ SoundFile d numbers s h xs
+  -- a file that is not read has one of three faults
+  pub faults : (d : ℕ) (numbers : Numbers) (s : Slots) (h : Halt) → file_of d numbers s ≡ Err h → IsFileFault h.refusal
   -- the number that is told where one lies under no record
-  pub lacking : (d : ℕ) (numbers : Numbers) (s : Slots) (n : ℕ) → file_of d numbers s ≡ uncovered n → Bare d s n
+  pub lacking : (d : ℕ) (numbers : Numbers) (s : Slots) (n : ℕ) → file_of d numbers s ≡ Err (placed Uncovered n) → Bare d s n
   -- a chain laid out as the cover of numbers that are all issued is read back, with its head
   pub back : (d : ℕ) (s : Slots) (h : Head) (xs : List Link) (spent : List ℕ) → Laid d s h xs → nodes_of xs ≡ cover d spent → ((n : ℕ) → In n spent → n < h.issued) →
-      file_of d h.numbers s ≡ sound h xs
+      file_of d h.numbers s ≡ Ok (h, xs)
   -- the record that is told covers the number asked for, and where none is told none covers it
   pub found : (d n b : ℕ) (xs : List Link) (f : Found) → find_in d n b xs ≡ Some f → FoundAt d n b xs f
   pub missing : (d n b : ℕ) (xs : List Link) → find_in d n b xs ≡ None → Reached d (nodes_of xs) n → ⊥
@@ -101,7 +111,7 @@ abbrev pub free_in : ℕ → ℕ → List ℕ → List ℕ
 free_in from count row = unmarked row from (count - from)
 
 abbrev pub FreeAre : Type 0
-FreeAre = (m count from : ℕ) (xs : List Link) (i : ℕ) → room_of count ≤ m → ((j : ℕ) → In j (slots_of xs) → j < count) →
+FreeAre = (m count from : ℕ) (xs : List Link) (i : ℕ) → room_of count ≤ m →
     In i (free_in from count (marked_all (zeros m) xs)) ↔ ((from ≤ i) × (i < count) × (In i (slots_of xs) → ⊥))
 
 -- there are as many as there are slots other than 0, less the records of the chain

@@ -4,15 +4,15 @@
 //! answer in specs/Outcome.antt, and what a server asks of the chain in specs/Listing.antt.
 #![tactic(auto)]
 
-ghost use Rattle.std.specs.Prelude.{◌≡◌, ℕ, suc, ◌+◌, ◌^◌, ◌<◌, ◌≤◌, max, true, List, length, Some, None};
+ghost use Rattle.std.specs.Prelude.{◌≡◌, suc, ◌+◌, ◌^◌, ◌<◌, max, true, List, length, Some, None, Ok};
 ghost use Rattle.octets.specs.Buffers.{zeros};
 ghost use Rattle.device.specs.Effects.{blank};
 ghost use Rattle.fault.specs.Faults.{placed};
 ghost use Rattle.refusal.specs.declared.Refusal.TheVariants.{BadLink};
 ghost use Rattle.tree.specs.Nodes.{tree_levels, IsNode};
-ghost use Rattle.chain.specs.Reading.{Link, Walk.walked, end_of, is_twin, may_follow, walk};
+ghost use Rattle.chain.specs.Reading.{Link, end_of, is_twin, may_follow, walk, chain_of};
 ghost use Rattle.chain.specs.Listing.{counted, tally_of, none_yet, marked_all};
-ghost use Rattle.chain.specs.Outcome.{Reading.read, chain_of, reading_of, answer_of, marks_of, head_read, record_read};
+ghost use Rattle.chain.specs.Outcome.{reading_of, answer_of, marks_of, head_read, record_read};
 ghost use Rattle.layout.specs.declared.Head.{Head};
 ghost use Rattle.chain.specs.Sound.{FileLaws, FreeAre, FreeCount, free_in};
 ghost use Rattle.chain.specs.Steps.{Preceding};
@@ -155,7 +155,7 @@ fn walk_along<D: ReadSlots>(
 ) -> Result<Tally, Halt>
     requires { (D.state device.now).power ≡ true }
     ensures is { result ≡ tally_of tree_levels wanted (none_yet head.now.issued) 0 (walk tree_levels (suc (2 ^ tree_levels)) (D.state device.now).slots 0 None 0 head.now.first) }
-    ensures marks { (xs : List Link) → walk tree_levels (suc (2 ^ tree_levels)) (D.state device.now).slots 0 None 0 head.now.first ≡ walked xs → marks.new ≡ marked_all marks.old xs }
+    ensures marks { (xs : List Link) → walk tree_levels (suc (2 ^ tree_levels)) (D.state device.now).slots 0 None 0 head.now.first ≡ Ok xs → marks.new ≡ marked_all marks.old xs }
 {
     let count = device.count();
     let mut tally = Tally {
@@ -206,7 +206,7 @@ fn judge<D: ReadSlots>(
 ) -> Result<Survey, Halt>
     requires { (D.state device.now).power ≡ true }
     ensures is { result ≡ answer_of tree_levels (Some wanted) (chain_of tree_levels head.now (D.state device.now).slots) }
-    ensures marks { (h : Head) (xs : List Link) → chain_of tree_levels head.now (D.state device.now).slots ≡ read h xs → marks.new ≡ marked_all marks.old xs }
+    ensures marks { (h : Head) (xs : List Link) → chain_of tree_levels head.now (D.state device.now).slots ≡ Ok (h, xs) → marks.new ≡ marked_all marks.old xs }
 {
     let tally = walk_along(device, head, wanted, marks, slot)?;
     if tally.lowest < LEAVES {

@@ -2,22 +2,24 @@
 // Their name is "", since an Option would set Some around every other name.
 use crate::edits::Edit::{self, Beyond, Length, Put, Shorter, Turn, TurnLast};
 use fault::Call::{self, Issue, Make, Redeem, Reopen};
-use medium::Cut;
 use refusal::Refusal::{
     self, BadHead, BadLink, Exhausted, NoFreeSlot, NoPower, NotIssued, OtherName, SealBroken,
     Spent, TicketLength, Uncovered,
 };
+use row::Cut;
 use samples::Change;
+use session::MAX_RECORD;
+use ticket::MAX_TICKET;
 
 /// A refusal and its place.
 pub(crate) type Refused = (Refusal, u32);
 
 /// Lent buffers: what, the call, the bytes lent for the answer, and those for marks.
 pub(crate) const SHORT: [(&str, Call, usize, usize); 5] = [
-    ("138 bytes for a ticket", Issue, 138, 18),
-    ("17 bytes of marks for 18 slots", Issue, 139, 17),
-    ("86 bytes for a state", Redeem, 86, 18),
-    ("17 bytes of marks for 18 slots", Redeem, 87, 17),
+    ("138 bytes for a ticket", Issue, MAX_TICKET - 1, 18),
+    ("17 bytes of marks for 18 slots", Issue, MAX_TICKET, 17),
+    ("86 bytes for a state", Redeem, MAX_RECORD - 1, 18),
+    ("17 bytes of marks for 18 slots", Redeem, MAX_RECORD, 17),
     ("17 bytes of marks for 18 slots", Reopen, 0, 17),
 ];
 

@@ -4,13 +4,15 @@ use beds::{Base, Bed, Medium};
 use device::WriteSlots;
 use fault::{Call, Fault};
 use generator::Generator;
-use medium::Cut;
 use octets::same_bytes;
+use row::Cut;
 use samples::{Bytes, KEY_NAME, ROOM, ROOT, all_are, session_record};
 use scratch::Scratch;
 use sealer::Sealer;
 use server::{Answered, Cold, Running};
 use serving::{Held, device_of, opened, split};
+use session::MAX_RECORD;
+use ticket::MAX_TICKET;
 use tickets::{TOP, key_from, ticket_of};
 
 /// The fewest slots that a tree fits on.
@@ -74,8 +76,8 @@ impl Asked {
         let (room, marks) = match call {
             Call::Make => (0, 0),
             Call::Reopen => (0, SLOTS),
-            Call::Issue => (139, SLOTS),
-            Call::Redeem => (87, SLOTS),
+            Call::Issue => (MAX_TICKET, SLOTS),
+            Call::Redeem => (MAX_RECORD, SLOTS),
         };
         Asked {
             call,

@@ -11,7 +11,8 @@ ghost use Rattle.hmacseal.specs.Meaning.{sealed_bytes as hmacSealed};
 
 use chachaseal::ChaChaSealer;
 use hmacseal::HmacSealer;
-use sealer::{HEADING, Sealer};
+use sealer::Sealer;
+use ticket::HEADING;
 
 /// Fills `out` with the ChaCha20 block of `key`, `counter` and `nonce`.
 #[unsafe(no_mangle)]

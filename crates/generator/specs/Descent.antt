@@ -2,7 +2,7 @@
 use Rattle.std.specs.Prelude.{◌≡◌, ℕ, ◌-◌, List, [], ◌++◌, length, replicate, Some, None, Option}
 use Rattle.octets.specs.Buffers.{zeros}
 use Rattle.tree.specs.declared.Node.{Node}
-use Rattle.tree.specs.Nodes.{most_levels, Above}
+use Rattle.tree.specs.Nodes.{max_levels, Above}
 use Rattle.tree.specs.Values.{Expansion, value_of, key_of, key_from, Counted, sibling_values}
 use Rattle.generator.specs.declared.Values.{Values}
 use Rattle.generator.specs.Bytes.{value_length}
@@ -26,7 +26,7 @@ Descent g d x n before None after = (Above d x n → ⊥) × (after ≡ zeros va
 
 -- a row for as many values as the most levels: these values, and then values of zeros
 abbrev pub row_of : List (List ℕ) → List (List ℕ)
-row_of vs = vs ++ replicate (most_levels - length vs) (zeros value_length)
+row_of vs = vs ++ replicate (max_levels - length vs) (zeros value_length)
 
 -- what the row then holds: the values of the siblings passed, in their order
 abbrev pub Kept : Expansion → ℕ → Node → ℕ → List ℕ → Option ℕ → List (List ℕ) → Type 0

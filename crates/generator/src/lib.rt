@@ -3,7 +3,7 @@
 
 ghost use Rattle.std.specs.Prelude.{◌≡◌, ℕ, ◌+◌, ◌-◌, ◌<◌, ◌≤◌, Some, None, ◌++◌, length, drop};
 ghost use Rattle.octets.specs.Buffers.{zeros};
-ghost use Rattle.tree.specs.Nodes.{most_levels, Above};
+ghost use Rattle.tree.specs.Nodes.{max_levels, Above};
 ghost use Rattle.tree.specs.Values.{step_of, way, follow, besides};
 ghost use Rattle.generator.specs.Bytes.{value_length};
 ghost use Rattle.generator.specs.Meaning.{GeneratorMeaning, LawfulGenerator};
@@ -87,7 +87,7 @@ impl Values {
     // Makes the children's values, and puts that of the child on the way in the place of its parent's. The generator is
     // called here and nowhere else, and each call is counted.
     fn turn<G: Generator>(&mut self, generator: &G, to_right: bool, calls: &mut u32)
-        requires { calls.old < most_levels }
+        requires { calls.old < max_levels }
         ensures child { self.new.value ≡ step_of (G.meaning generator.now).expansion to_right self.old.value }
         ensures one { self.new.left ≡ (G.meaning generator.now).expansion.left self.old.value }
         ensures two { self.new.right ≡ (G.meaning generator.now).expansion.right self.old.value }
@@ -126,7 +126,7 @@ pub fn descend<G: Generator>(
 // A loop over the bits' heights, no fold: of what a closure changes in the values its proof would know nothing.
 #[tactic(auto, using(tree::proofs::Descent::key_step, tree::proofs::Descent::length_way))]
 fn go_down<G: Generator>(generator: &G, levels: u8, n: u32, values: &mut Values) -> u32
-    requires { levels ≤ most_levels }
+    requires { levels ≤ max_levels }
     ensures key { values.new.value ≡ follow (G.meaning generator.now).expansion values.old.value (way levels 0 n) }
     ensures left { values.new.left ≡ zeros value_length }
     ensures right { values.new.right ≡ zeros value_length }
@@ -172,7 +172,7 @@ fn keep_siblings<G: Generator>(
     values: &mut Values,
     row: &mut [Value; ROW],
 ) -> u32
-    requires { levels ≤ most_levels }
+    requires { levels ≤ max_levels }
     ensures key { values.new.value ≡ follow (G.meaning generator.now).expansion values.old.value (way levels 0 n) }
     ensures left { values.new.left ≡ zeros value_length }
     ensures right { values.new.right ≡ zeros value_length }

@@ -7,7 +7,7 @@ ghost use Rattle.std.proofs.ByRecursion.{All-take, All-drop};
 ghost use Rattle.std.proofs.lemmas.List.{length-take-le};
 ghost use Rattle.octets.specs.Buffers.{zeros};
 ghost use Rattle.octets.proofs.Small.{each_small};
-ghost use Rattle.chacha.proofs.Blocks.{block_long, block_bytes};
+ghost use Rattle.chacha.proofs.Blocks.{block_laws};
 ghost use Rattle.sha.specs.Digest.{sha256};
 ghost use Rattle.sha.proofs.Digests.{digest_long, digest_bytes};
 ghost use Rattle.generators.specs.Named.{chacha_meaning, sha_meaning, child_block};
@@ -29,12 +29,12 @@ impl Generator for ChaChaGenerator {
     ghost meaning = { λ _. chacha_meaning };
 
     ghost lawful = { λ _.
-        let long : (v : List ℕ) → length (child_block v) ≡ 64 = λ v. block_long v 0 (zeros 12) in
+        let long : (v : List ℕ) → length (child_block v) ≡ 64 = λ v. block_laws.long v 0 (zeros 12) in
         record {
           lengths = record { on_left = λ v _. length-take-le 32 (child_block v) (omega (arith, long v)); on_right = λ v _. length-drop 32 (child_block v) ∙ omega (arith, long v) };
           one_byte = Prim.search rules;
-          bytes_left = λ v _. each_small _ (All-take (λ b. b < 256) 32 (child_block v) (block_bytes v 0 (zeros 12)));
-          bytes_right = λ v _. each_small _ (All-drop (λ b. b < 256) 32 (child_block v) (block_bytes v 0 (zeros 12)));
+          bytes_left = λ v _. each_small _ (All-take (λ b. b < 256) 32 (child_block v) (block_laws.bytes v 0 (zeros 12)));
+          bytes_right = λ v _. each_small _ (All-drop (λ b. b < 256) 32 (child_block v) (block_laws.bytes v 0 (zeros 12)));
         } };
 
     fn number(&self) -> u8 {

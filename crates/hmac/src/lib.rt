@@ -88,7 +88,7 @@ impl Hmac {
 }
 
 // Writes the key block: the key, or the digest of a key longer than a block, and zeros after it.
-#[tactic(auto, using(crate::proofs::Macs::short_block, crate::proofs::Macs::long_block))]
+#[tactic(auto, using(crate::proofs::Macs::short_block, sha::proofs::Digests::digest_long), unfolding(crate::specs::Mac::key_block, crate::specs::Mac::short_key))]
 fn key_block(key: &[u8], pad: &mut [u8; 64])
     ensures { pad.new ≡ key_block key.now }
 {
@@ -103,7 +103,7 @@ fn key_block(key: &[u8], pad: &mut [u8; 64])
 }
 
 // Changes each byte of the pad by XOR with `b`.
-#[tactic(auto, using(crate::proofs::Macs::turns))]
+#[tactic(auto, using(crate::proofs::Macs::masked_more), unfolding(crate::specs::Mac::masked))]
 fn mask(pad: &mut [u8; 64], b: u8)
     ensures { pad.new ≡ masked b pad.old }
 {

@@ -3,8 +3,8 @@ use Rattle.std.specs.Prelude.{ℕ, List, ◌∷◌, ◌++◌}
 use Rattle.octets.specs.Fields.{bytes_of}
 use Rattle.hmac.specs.Mac.{hmac}
 use Rattle.sealer.specs.Meaning.{SealerMeaning}
-use Rattle.sealing.specs.Schemes.{SchemeMeaning}
-use Rattle.sealing.specs.Covering.{sealing_of, sealer_by}
+use Rattle.scheme.specs.Schemes.{SchemeMeaning}
+use Rattle.scheme.specs.Covering.{sealing_of, sealer_by}
 
 -- the number by which trees name this sealer
 abbrev pub sealer_number : ℕ

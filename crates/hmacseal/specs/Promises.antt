@@ -4,8 +4,8 @@ use Rattle.std.proofs.Common.{arith}
 use Rattle.octets.specs.Fields.{bytes_of}
 use Rattle.hmac.proofs.Macs.{mac_long}
 use Rattle.sealer.specs.Meaning.{LawfulSealer}
-use Rattle.sealing.specs.Schemes.{LawfulScheme}
-use Rattle.sealing.proofs.Covers.{sealer_lawful}
+use Rattle.scheme.specs.Schemes.{LawfulScheme}
+use Rattle.scheme.proofs.Covers.{sealer_lawful}
 use Rattle.hmacseal.specs.Meaning.{block_size, tag_size, stream_block, tag_of, sealer_number, scheme, sealer}
 
 stream_long : (key : List ℕ) (index : ℕ) → length (stream_block key index) ≡ block_size

@@ -9,8 +9,9 @@ ghost use Rattle.hmacseal.specs.Promises.{lawful_scheme, lawful_sealer};
 use hmac::Hmac;
 use octets::{Field, Wiped};
 use refusal::Refusal;
-use sealer::{HEADING, OVERHEAD_LIMIT, Sealer};
-use sealing::Scheme;
+use scheme::Scheme;
+use sealer::Sealer;
+use ticket::{HEADING, MAX_OVERHEAD};
 
 // The number by which trees name this sealer.
 const NUMBER: u8 = 2;
@@ -58,7 +59,7 @@ impl Scheme for HmacSealer {
         key: &[u8; 32],
         heading: &[u8; HEADING],
         bytes: &[u8],
-        out: &mut [u8; OVERHEAD_LIMIT],
+        out: &mut [u8; MAX_OVERHEAD],
         pad: &mut [u8; 64],
     ) {
         let mut mac = Hmac::new(key, pad);
@@ -92,7 +93,7 @@ impl Sealer for HmacSealer {
         pad: &mut [u8; 64],
     ) -> Result<usize, Refusal> {
         let guard = Wiped { pad };
-        sealing::seal(self, key, heading, plain, out, guard.pad)
+        scheme::seal(self, key, heading, plain, out, guard.pad)
     }
 
     fn open(
@@ -104,6 +105,6 @@ impl Sealer for HmacSealer {
         pad: &mut [u8; 64],
     ) -> Result<Option<usize>, Refusal> {
         let guard = Wiped { pad };
-        sealing::open(self, key, heading, sealed, out, guard.pad)
+        scheme::open(self, key, heading, sealed, out, guard.pad)
     }
 }

@@ -3,12 +3,12 @@
 
 ghost use Rattle.std.specs.Prelude.{◌≡◌};
 ghost use Rattle.device.specs.Effects.{Tearing, Restarting};
-ghost use Rattle.medium.specs.Rows.{Row, slots_of, state_by, fresh};
-ghost use Rattle.medium.specs.Appointed.{appointed, Struck, Restarted, partly};
-ghost use Rattle.medium.proofs.Rows.{sized_row};
+ghost use Rattle.row.specs.Rows.{Row, slots_of, state_by, fresh};
+ghost use Rattle.row.specs.Appointed.{appointed, Struck, Restarted, partly};
+ghost use Rattle.row.proofs.Rows.{sized_row};
 
 use device::{DeviceFault, ReadSlots, SLOT_SIZE, TearSlots};
-use medium::{Bottom, Cut, answer};
+use row::{Bottom, Cut, answer};
 use std::marker::Model;
 
 /// Slot i is the bytes from 64 i on; bytes past the last whole slot are unused.
@@ -47,19 +47,19 @@ impl<'a> ReadSlots for ByteImage<'a> {
 
     ghost sized = { λ s k h. sized_row s.row k h };
 
-    #[tactic(auto, using(medium::proofs::Rows::many))]
+    #[tactic(auto, using(row::proofs::Rows::many))]
     fn count(&self) -> usize {
         self.base.size() / SLOT_SIZE
     }
 
-    #[tactic(auto, using(medium::proofs::Rows::slots))]
+    #[tactic(auto, using(row::proofs::Rows::slots))]
     fn read(&self, index: usize, out: &mut [u8; SLOT_SIZE]) -> Result<(), DeviceFault> {
         self.base.read(self.count(), index, out)
     }
 }
 
 impl<'a> TearSlots for ByteImage<'a> {
-    #[tactic(auto, using(medium::proofs::Rows::many, crate::proofs::Tears::writes))]
+    #[tactic(auto, using(row::proofs::Rows::many, crate::proofs::Tears::writes))]
     fn write(&mut self, index: usize, bytes: &[u8; SLOT_SIZE]) -> Result<(), DeviceFault>
         ensures meaning { Tearing (state_by slots_of self.old) index bytes.now result (state_by slots_of self.new) }
         ensures exact { Struck partly slots_of self.old index bytes.now result self.new }

@@ -5,10 +5,10 @@ use Rattle.fault.specs.declared.Halt.{Halt}
 use Rattle.fault.specs.declared.Step.TheVariants.{Head as HeadStep}
 use Rattle.layout.specs.declared.Head.{Head}
 use Rattle.chain.specs.declared.Found.{Found}
-use Rattle.rules.specs.Kits.{Kit}
+use Rattle.calls.specs.Kits.{Kit}
 use Rattle.steps.specs.OneStep.{write_of, Stepped}
 use Rattle.steps.specs.Writes.{Ran, through, failed}
-use Rattle.rules.specs.Files.{issue_write}
+use Rattle.calls.specs.Files.{issue_write}
 use Rattle.steps.proofs.Plans.{ran_one}
 use Rattle.issuing.specs.Ends.{IssueEnds, ended}
 

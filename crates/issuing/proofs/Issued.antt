@@ -12,17 +12,16 @@ use Rattle.tree.specs.Nodes.{tree_levels}
 use Rattle.tree.proofs.Members.{in_right}
 use Rattle.chain.specs.declared.Survey.{Survey}
 use Rattle.chain.specs.declared.Found.{Found}
-use Rattle.chain.specs.Reading.{file_of}
 use Rattle.chain.specs.Outcome.{reading_of, answer_of, marks_of}
 use Rattle.chain.specs.Sound.{SoundFile, FoundAt}
 use Rattle.chain.proofs.Files.{to_sound}
 use Rattle.chain.proofs.Finds.{found_at, none_at}
-use Rattle.rules.specs.Kits.{Kit, numbers_in}
-use Rattle.rules.specs.Tickets.{ticket_most}
-use Rattle.rules.specs.Calls.{Outcome, Finished, entry_verdict, read_by, issuable, issue_verdict, issued_ticket, Issuing, Issuing.declined, Issuing.cut, Issuing.given, kept}
+use Rattle.calls.specs.Kits.{Kit, numbers_in}
+use Rattle.ticket.specs.Limits.{max_ticket}
+use Rattle.calls.specs.Calls.{Outcome, Finished, entry_verdict, read_by, issuable, issue_verdict, issued_ticket, Issuing, Issuing.declined, Issuing.cut, Issuing.given, kept}
 use Rattle.issuing.specs.Ends.{Issuable, link_of, IssueEnds, ended, gave}
 use Rattle.chain.proofs.Standing.{Standing, standing}
-use Rattle.rules.proofs.Readings.{Entered, entered_by, Told, read_err, read_ok, told_read}
+use Rattle.calls.proofs.Readings.{Entered, entered_by, Told, read_err, read_ok}
 
 some_by : {A : Type 0} (o : Option A) → (o ≡ None → ⊥) → IsSome o
 some_by (Some x) f = refl
@@ -33,7 +32,7 @@ module _ (k : Kit) (s : State) (plain : List ℕ) (room marks : ℕ) where
   pub stopped : {h : Halt} → issue_verdict k tree_levels s plain room marks ≡ Err h → (headed : Bool) × Issuing k tree_levels s plain room marks (Err h) (zeros room) s headed
   stopped {h = h} e = (false, declined h e refl (record { state = refl; zero = refl }) refl)
 
-  module _ (entry : entry_verdict tree_levels s.slots ticket_most room marks ≡ Ok tt) where
+  module _ (entry : entry_verdict tree_levels s.slots max_ticket room marks ≡ Ok tt) where
     pub not_a_record : is_record plain ≡ false → (headed : Bool) × Issuing k tree_levels s plain room marks (Err (plainly NotARecord)) (zeros room) s headed
     not_a_record e = stopped (rw (entry, e))
 
@@ -41,26 +40,26 @@ module _ (k : Kit) (s : State) (plain : List ℕ) (room marks : ℕ) where
       verdict_is : issue_verdict k tree_levels s plain room marks ≡ issuable tree_levels (read_by k tree_levels s)
       verdict_is = rw (entry, good)
 
-      entered : Entered s.slots ticket_most room marks
+      entered : Entered s.slots max_ticket room marks
       entered = entered_by tree_levels entry
 
       pub read_stops : {h : Halt} → Err h ≡ answer_of tree_levels None (reading_of tree_levels (numbers_in k) marks s) → (headed : Bool) × Issuing k tree_levels s plain room marks (Err h) (zeros room) s headed
       read_stops e = stopped (verdict_is ∙ ap (issuable tree_levels) (read_err tree_levels (numbers_in k) s entered.wide entered.some None e))
 
       module _ {v : Survey} (e : Ok v ≡ answer_of tree_levels None (reading_of tree_levels (numbers_in k) marks s)) where
-        told : Told tree_levels None marks s.power (file_of tree_levels (numbers_in k) s.slots) v (marks_of marks (reading_of tree_levels (numbers_in k) marks s))
+        told : Told tree_levels (numbers_in k) s None marks v (marks_of marks (reading_of tree_levels (numbers_in k) marks s))
         told = read_ok tree_levels (numbers_in k) s entered.wide entered.some None e refl
 
         pub exhausted : 65536 ≤ v.head.issued → (headed : Bool) × Issuing k tree_levels s plain room marks (Err (plainly Exhausted)) (zeros room) s headed
         exhausted l =
-            let t = le-ltb _ _ l in stopped (verdict_is ∙ ap (issuable tree_levels) (told_read told) ∙ rw t)
+            let t = le-ltb _ _ l in stopped (verdict_is ∙ ap (issuable tree_levels) told.read ∙ rw t)
 
         module _ (l : v.head.issued < 65536) where
           file : SoundFile tree_levels (numbers_in k) s.slots v.head told.links
           file = to_sound tree_levels (numbers_in k) s.slots v.head told.links told.file
 
           verdict_ok : issue_verdict k tree_levels s plain room marks ≡ Ok (v.head, told.links)
-          verdict_ok = let t = lt-ltb _ _ l in verdict_is ∙ ap (issuable tree_levels) (told_read told) ∙ rw t
+          verdict_ok = let t = lt-ltb _ _ l in verdict_is ∙ ap (issuable tree_levels) told.read ∙ rw t
 
           -- the next number lies under a record
           pub covered : IsSome v.found

@@ -5,15 +5,15 @@ use Rattle.device.specs.Effects.{Slots, State}
 use Rattle.fault.specs.declared.Halt.{Halt}
 use Rattle.layout.specs.declared.Head.{Head}
 use Rattle.layout.specs.Records.{value_of}
-use Rattle.session.specs.Limits.{most_length}
+use Rattle.session.specs.Limits.{max_record}
 use Rattle.tree.specs.Nodes.{tree_levels, Above}
 use Rattle.chain.specs.declared.Found.{Found}
 use Rattle.chain.specs.Reading.{Link}
-use Rattle.rules.specs.Kits.{Kit}
-use Rattle.rules.specs.Tickets.{ticket_most}
+use Rattle.calls.specs.Kits.{Kit}
+use Rattle.ticket.specs.Limits.{max_ticket}
 use Rattle.steps.specs.Writes.{stood, CutShort}
-use Rattle.rules.specs.Files.{issue_write}
-use Rattle.rules.specs.Calls.{Outcome, Finished, issued_ticket}
+use Rattle.calls.specs.Files.{issue_write}
+use Rattle.calls.specs.Calls.{Outcome, Finished, issued_ticket}
 
 -- the record that was found covers the next number, the plain is no longer than a record, and the buffer has room
 pub record Issuable (s : State) (h : Head) (f : Found) (plain : List ℕ) (room : ℕ) : Type 0 where
@@ -21,8 +21,8 @@ pub record Issuable (s : State) (h : Head) (f : Found) (plain : List ℕ) (room 
   pub within : f.slot < length s.slots
   pub under : Above tree_levels f.node h.issued
   pub left : h.issued < 2 ^ tree_levels
-  pub short : length plain ≤ most_length
-  pub long : ticket_most ≤ room
+  pub short : length plain ≤ max_record
+  pub long : max_ticket ≤ room
 
 -- the record as a link of the chain
 abbrev pub link_of : Slots → Found → Link

@@ -6,16 +6,17 @@
 
 ghost use Rattle.std.specs.Prelude.{◌≡◌, ℕ, ◌+◌, ◌-◌, ◌^◌, ◌<◌, ◌≤◌, Bool, true, List, [], ◌++◌, length, replicate, slice_index_or};
 ghost use Rattle.octets.specs.Buffers.{zeros, filled};
-ghost use Rattle.session.specs.Limits.{most_length};
-ghost use Rattle.sealer.specs.Headings.{heading_of};
+ghost use Rattle.session.specs.Limits.{max_record};
+ghost use Rattle.ticket.specs.Limits.{max_ticket};
+ghost use Rattle.ticket.specs.Parts.{heading_of};
 ghost use Rattle.layout.specs.Records.{value_of, recounted};
-ghost use Rattle.rules.specs.Tickets.{ticket_most};
-ghost use Rattle.rules.specs.Kits.{kit_of};
-ghost use Rattle.rules.specs.Calls.{Issuing, kept};
+ghost use Rattle.calls.specs.Kits.{kit_of};
+ghost use Rattle.calls.specs.Calls.{Issuing, kept};
 ghost use Rattle.scratch.specs.Clean.{Clean};
 ghost use Rattle.tree.specs.Nodes.{tree_levels};
 ghost use Rattle.issuing.specs.Ends.{Issuable, IssueEnds};
 
+use calls::{admit, numbers_of};
 use chain::{Found, LEAVES, read_file};
 use device::{ReadSlots, SLOT_SIZE, WriteSlots};
 use fault::{Halt, Step};
@@ -23,20 +24,12 @@ use generator::{Generator, Value, descend};
 use layout::{Head, copy_value, recount};
 use octets::clear;
 use refusal::Refusal;
-use rules::{admit, numbers_of};
 use scratch::Scratch;
-use sealer::{HEADING, NAME, OVERHEAD_LIMIT, PLAIN_LIMIT, Sealer, heading};
+use sealer::Sealer;
 use session::is_record;
 use steps::{read_at, write_at};
+use ticket::{HEADING, MAX_TICKET, NAME, heading};
 use tree::LEVELS;
-
-/// The bytes that a ticket's buffer must have: the heading, the longest record and the largest overhead.
-pub const TICKET_MOST: usize = HEADING + PLAIN_LIMIT + OVERHEAD_LIMIT;
-
-/// The length of the longest ticket.
-pub fn limits_stand()
-    ensures { TICKET_MOST ≡ ticket_most }
-{}
 
 // Loads the value of the record in a slot.
 fn load_value<D: ReadSlots>(device: &D, index: u16, slot: &mut [u8; SLOT_SIZE], value: &mut Value)
@@ -66,7 +59,7 @@ fn seal_ticket<S: Sealer>(
     ticket: &mut [u8],
     pad: &mut [u8; SLOT_SIZE],
 ) -> usize
-    requires { (ticket_most ≤ length ticket.old) × (length plain.now ≤ most_length) }
+    requires { (max_ticket ≤ length ticket.old) × (length plain.now ≤ max_record) }
     ensures is { ticket.new ≡ filled (heading_of name.now number ++ (S.meaning sealer.now).sealing key.now (heading_of name.now number) plain.now) (length ticket.old) }
     ensures long { result ≡ length (heading_of name.now number ++ (S.meaning sealer.now).sealing key.now (heading_of name.now number) plain.now) }
 {
@@ -129,7 +122,7 @@ fn issue_into<D: WriteSlots, G: Generator, S: Sealer>(
 ) -> Result<(usize, u32), Halt>
     ensures { (headed : Bool) × Issuing (kit_of (G.meaning generator.now) (S.meaning sealer.now)) tree_levels (D.state device.old) plain.now (length ticket.old) (length marks.old) result (kept result (length ticket.old) ticket.new) (D.state device.new) headed }
 {
-    admit(device, TICKET_MOST, ticket.len(), marks.len())?;
+    admit(device, MAX_TICKET, ticket.len(), marks.len())?;
     if !is_record(plain) {
         return Err(Halt::plain(Refusal::NotARecord));
     }

@@ -1,5 +1,5 @@
 -- Clearing changes nothing that is shown, wherever it is cut.
-use Rattle.std.proofs.Common.{◌≡◌, ℕ, ◌+◌, ◌<◌, ◌≤◌, cond, List, [], ◌∷◌, ◌++◌, length, set, Some, None, Option, refl, arith, sym, ap, ◌∙◌, subst, ⊎_elim, get_or-set_same}
+use Rattle.std.proofs.Common.{◌≡◌, ℕ, ◌+◌, ◌<◌, ◌≤◌, List, [], ◌∷◌, length, set, Some, None, Option, refl, arith, sym, ◌∙◌, ⊎_elim, get_or-set_same}
 use Rattle.std.proofs.Math.Seq.{set_out}
 use Rattle.std.proofs.lemmas.Bool.{cases_lt, lt-ltb, le-ltb}
 use Rattle.device.specs.Effects.{Slot, Slots, blank}
@@ -8,20 +8,6 @@ use Rattle.journal.specs.Writes.{Write, write_of, clear_writes_of, clear_writes,
 use Rattle.journal.specs.Sized.{length_shown, length_places_in}
 use Rattle.journal.proofs.Views.{parts_of, slot_kept, slot_written, shown_raised, zeros_done, zeros_cut}
 use Rattle.journal.proofs.Runs.{AtEachCut, none, next}
-
-pub clear_none : (s : Slots) → clear_writes_of None s ≡ []
-unfolding clear_writes_of
-clear_none s = refl
-
-pub clear_in : (i : ℕ) (s : Slots) → i < length (shown s) → clear_writes_of (Some i) s ≡ write_of (i + 2) (copy_in s) ∷ write_of 0 blank ∷ []
-unfolding clear_writes_of
-clear_in i s h = ap (λ v. cond v (write_of (i + 2) (copy_in s) ∷ []) [] ++ (write_of 0 blank ∷ [])) (lt-ltb i (length (shown s)) h)
-
-pub clear_out : (i : ℕ) (s : Slots) → length (shown s) ≤ i → clear_writes_of (Some i) s ≡ write_of 0 blank ∷ []
-unfolding clear_writes_of
-clear_out i s h = ap (λ v. cond v (write_of (i + 2) (copy_in s) ∷ []) [] ++ (write_of 0 blank ∷ [])) (le-ltb i (length (shown s)) h)
-
-pub ruleset clearing = (clear_none, clear_in, clear_out)
 
 -- writes that change nothing that is shown, wherever they are cut, and leave a copy that stands for no slot
 pub record Settles (s : Slots) (ws : List Write) : Type 0 where
@@ -33,7 +19,7 @@ zeros_settle : (s u : Slots) → 2 < length u → shown u ≡ shown s → places
 zeros_settle s u some same places = next (zeros_cut u some (shown s) places same) (none (zeros_done u some (shown s) places))
 
 zeros_low : (u : Slots) → 2 < length u → pending_in (mark_in (set u 0 blank)) ≡ None
-zeros_low u some = ap pending_in (get_or-set_same u 0 blank [] (omega arith))
+zeros_low u some = grind (arith, get_or-set_same)
 
 module _ (s : Slots) (i : ℕ) (is : pending_in (mark_in s) ≡ Some i) (some : 2 < length s) where
   was : shown s ≡ set (places_in s) i (copy_in s)
@@ -53,11 +39,12 @@ module _ (s : Slots) (i : ℕ) (is : pending_in (mark_in s) ≡ Some i) (some : 
       record { same = next (λ k. kept _) (zeros_settle s (set s (i + 2) x) (at x).long (kept x) ((at x).places ∙ sym was)); low = zeros_low (set s (i + 2) x) (at x).long }
 
 settles_of : (s : Slots) (o : Option ℕ) → pending_in (mark_in s) ≡ o → 2 < length s → Settles s (clear_writes_of o s)
-settles_of s None e some = subst (Settles s) (sym (clear_none s)) (record { same = none refl; low = e })
+unfolding clear_writes_of
+settles_of s None e some = record { same = none refl; low = e }
 settles_of s (Some i) e some =
     ⊎_elim
-    (λ h. subst (Settles s) (sym (clear_in i s h)) (settles_in s i e some h))
-    (λ h. subst (Settles s) (sym (clear_out i s h)) (settles_out s i e some h))
+    (λ h. rw (lt-ltb i (length (shown s)) h) (settles_in s i e some h))
+    (λ h. rw (le-ltb i (length (shown s)) h) (settles_out s i e some h))
     (cases_lt i (length (shown s)))
 
 pub settles : (s : Slots) → 2 < length s → Settles s (clear_writes s)

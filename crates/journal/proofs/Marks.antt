@@ -16,7 +16,7 @@ torn_low (suc m) rest old e = refl
 -- the flag alone over the same mark without it: the old mark or the new one
 pub torn_raise : (m : ℕ) (rest : List ℕ) → (torn m (0 ∷ rest) (1 ∷ rest) ≡ 0 ∷ rest) ⊎ (torn m (0 ∷ rest) (1 ∷ rest) ≡ 1 ∷ rest)
 torn_raise zero rest = inl refl
-torn_raise (suc m) rest = inr (ap (λ t. 1 ∷ t) (take-append-drop m rest))
+torn_raise (suc m) rest = grind (arith, take-append-drop)
 
 -- a mark with no flag over any other: the old mark, or one whose copy stands for none
 pub torn_clear : (m : ℕ) (rest : List ℕ) (old : Slot) → (torn m old (0 ∷ rest) ≡ old) ⊎ (pending_in (torn m old (0 ∷ rest)) ≡ None)

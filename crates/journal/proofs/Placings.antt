@@ -1,5 +1,5 @@
 -- The five writes that put a slot's new bytes in place: what is shown is old or new, wherever they are cut.
-use Rattle.std.proofs.Common.{◌≡◌, ℕ, ◌+◌, ◌/◌, ◌%◌, ◌<◌, ◌⊎◌, List, ◌∷◌, length, set, replicate, None, sym, ap, ◌∙◌, inl, inr, arith, set-set}
+use Rattle.std.proofs.Common.{◌≡◌, ℕ, ◌+◌, ◌/◌, ◌%◌, ◌<◌, ◌⊎◌, List, ◌∷◌, length, set, replicate, None, ap, ◌∙◌, inl, inr, arith, set-set}
 use Rattle.device.specs.Effects.{Slot, Slots, torn}
 use Rattle.journal.specs.Layout.{mark_in, mark_of, copy_in, pending_in, shown}
 use Rattle.journal.specs.Writes.{place_writes, stood}
@@ -14,9 +14,7 @@ rest i = i / 256 ∷ i % 256 ∷ replicate 61 0
 
 module _ (s : Slots) (i : ℕ) (b : Slot) (within : i < length (shown s)) (low : pending_in (mark_in s) ≡ None) where
   at_first : Parts s (mark_in s) (shown s) (copy_in s)
-  at_first =
-      let p = parts_of s (omega (arith, length_shown s)) in
-      record { mark = p.mark; places = sym (shown_low p low); copy = p.copy; long = p.long }
+  at_first = let p = parts_of s (omega (arith, length_shown s)) in rw (shown_low p low) p
 
   -- the slots below once x is put in the copy, in the mark, in the mark again and in the place of slot i
   copied : (x : Slot) → Parts (set s 1 x) (mark_in s) (shown s) x
@@ -32,10 +30,10 @@ module _ (s : Slots) (i : ℕ) (b : Slot) (within : i < length (shown s)) (low :
   stored x = slot_written (raised (mark_of 1 i)) x i (omega (arith, length_shown s))
 
   shown_stored : (x : Slot) → shown (set (set (set (set s 1 b) 0 (mark_of 0 i)) 0 (mark_of 1 i)) (i + 2) x) ≡ set (shown s) i b
-  shown_stored x = shown_raised i (stored x) (pending_in_raised i) ∙ set-set (shown s) i x b
+  shown_stored x = rw (shown_raised i (stored x) (pending_in_raised i), set-set)
 
   pub placed : shown (stood s (place_writes i b)) ≡ set (shown s) i b
-  placed = zeros_done _ (stored b).long (set (shown s) i b) (stored b).places
+  placed = zeros_done _ (stored b).long _ (stored b).places
 
   pub placing : AtEachCut (λ t. (shown t ≡ shown s) ⊎ (shown t ≡ set (shown s) i b)) s (place_writes i b)
   placing =
@@ -51,5 +49,5 @@ module _ (s : Slots) (i : ℕ) (b : Slot) (within : i < length (shown s)) (low :
       ]
       )
       (next (λ k. inr (shown_stored _))
-      (next (λ k. inr (zeros_cut _ (stored b).long (set (shown s) i b) (stored b).places (shown_stored b) k))
+      (next (λ k. inr (zeros_cut _ (stored b).long _ (stored b).places (shown_stored b) k))
       (none (inr placed))))))

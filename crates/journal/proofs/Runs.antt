@@ -1,7 +1,6 @@
 -- Writes made one after another.
-use Rattle.std.proofs.Common.{◌≡◌, ℕ, suc, ◌+◌, ◌<◌, true, List, [], ◌∷◌, ◌++◌, length, get_or, take, drop, set, map, Ok, Err, sym, refl, ap, ◌∙◌, append_assoc, subst, inl, inr, arith}
+use Rattle.std.proofs.Common.{◌≡◌, ℕ, suc, ◌+◌, ◌<◌, true, List, [], ◌∷◌, ◌++◌, length, get_or, take, drop, set, map, Ok, Err, sym, refl, ap, ◌∙◌, append_assoc, inl, inr, arith}
 use Rattle.std.proofs.Math.Seq.{drop-cons}
-use Rattle.std.proofs.lemmas.Bool.{both_ways}
 use Rattle.std.proofs.lemmas.List.{map-append, map_more, take-append-drop}
 use Rattle.std.proofs.lemmas.List.Sums.{fold-append}
 use Rattle.std.specs.Result.{is_err}
@@ -26,35 +25,31 @@ Within_at n (v ∷ ws) vs w h = Within_at n ws vs w h.1
 cut_short : (s : Slots) (u : State) (front back : List Write) (w : Write) (e : DeviceFault) (t : State) → Within (length s) (front ++ (w ∷ back)) → u.slots ≡ stood s front → u.power ≡ true → Tearing u w.slot w.bytes (Err e) t → Ran s (front ++ (w ∷ back)) (Err e) t
 cut_short s u front back w NoSuchSlot t h at o (inl d) =
     let z = Within_at (length s) front back w h in absurd (omega (arith, d.0, ap length at, length_stood s front))
-cut_short s u front back w NoPower t h at o (inl d) = absurd (both_ways u.power d.0.1 o)
+cut_short s u front back w NoPower t h at o (inl d) = absurd cc
 cut_short s u front back w e t h at o (inr d) =
     (d.0, record { front = front; cut = w; back = back; are = refl; standing = d.3.0; few = d.3.1; slots = rw (← at) d.3.2 }, d.4)
 
 -- a row that is gone through: at its k-th write
 module _ {X : Type 0} (f : X → Write) (s : Slots) (xs : List X) (k : ℕ) (d : X) (u : State) (at : u.slots ≡ stood s (map f (take k xs))) (h : k < length xs) where
   pub stood_more : (t : Slots) → t ≡ set u.slots (f (get_or xs k d)).slot (f (get_or xs k d)).bytes → t ≡ stood s (map f (take (k + 1) xs))
-  stood_more t e = e ∙ ap (λ y. set y (f (get_or xs k d)).slot (f (get_or xs k d)).bytes) at ∙ sym (stood_append s (map f (take k xs)) (f (get_or xs k d) ∷ [])) ∙ ap (stood s) (sym (map_more f xs k d h))
+  stood_more t e = rw (map_more f xs k d h, stood_append, e, at)
 
   around : map f (take k xs) ++ (f (get_or xs k d) ∷ map f (drop (suc k) xs)) ≡ map f xs
-  around = sym (map-append f (take k xs) (get_or xs k d ∷ drop (suc k) xs)) ∙ ap (λ y. map f (take k xs ++ y)) (sym (drop-cons xs k d h)) ∙ ap (map f) (take-append-drop k xs)
+  around = sym (map-append f (take k xs) (get_or xs k d ∷ drop (suc k) xs)) ∙ ap (map f) (rw (← drop-cons xs k d h) (take-append-drop k xs))
 
   pub ran_short : (e : DeviceFault) (t : State) → Within (length s) (map f xs) → u.power ≡ true → Tearing u (f (get_or xs k d)).slot (f (get_or xs k d)).bytes (Err e) t → Ran s (map f xs) (Err e) t
   ran_short e t w o c =
-      rw (← around) (cut_short s u (map f (take k xs)) (map f (drop (suc k) xs)) (f (get_or xs k d)) e t (rw around w) at o c)
+      rw (← around) (cut_short s u _ _ _ e t (rw around w) at o c)
 
 -- the first writes done, and then the others
 ran_then : (s : Slots) (ws vs : List Write) (r : Answer) (t : State) → Ran (stood s ws) vs r t → Ran s (ws ++ vs) r t
 ran_then s ws vs (Ok _) t d = rw stood_append d
-ran_then s ws vs (Err e) t d =
-    let c = d.1 in
-    let are = ap (λ x. ws ++ x) c.are ∙ sym (append_assoc ws c.front (c.cut ∷ c.back)) in
-    (d.0, record { front = ws ++ c.front; cut = c.cut; back = c.back; are = are; standing = c.standing; few = c.few; slots = rw stood_append c.slots }, d.2)
+ran_then s ws vs (Err e) t (n, c, q) =
+    (n, record { front = ws ++ c.front; cut = c.cut; back = c.back; are = rw (c.are, append_assoc) refl; standing = c.standing; few = c.few; slots = rw stood_append c.slots }, q)
 
 -- a failure among the first
 cut_more : (s : Slots) (ws vs : List Write) (t : Slots) → CutShort s ws t → CutShort s (ws ++ vs) t
-cut_more s ws vs t c =
-    let are = ap (λ x. x ++ vs) c.are ∙ append_assoc c.front (c.cut ∷ c.back) vs in
-    record { front = c.front; cut = c.cut; back = c.back ++ vs; are = are; standing = c.standing; few = c.few; slots = c.slots }
+cut_more s ws vs t c = grind (arith, append_assoc)
 
 -- P holds wherever the writes are cut, and once all of them stand
 pub data AtEachCut (P : Slots → Type 0) : Slots → List Write → Type 0 where
@@ -70,10 +65,10 @@ AtEachCut_cut [] back w m (next f h) = f m
 AtEachCut_cut (v ∷ front) back w m (next f h) = AtEachCut_cut front back w m h
 
 pub AtEachCut_short : {P : Slots → Type 0} {s : Slots} {ws : List Write} {t : Slots} → AtEachCut P s ws → CutShort s ws t → P t
-AtEachCut_short {P} {s} h c = subst P (sym c.slots) (AtEachCut_cut c.front c.back c.cut c.standing (subst (λ ws. AtEachCut P s ws) c.are h))
+AtEachCut_short h c = grind (arith, AtEachCut_cut)
 
 pub AtEachCut_ran : {P : Slots → Type 0} {s : Slots} {ws : List Write} (r : Answer) (t : State) → AtEachCut P s ws → Ran s ws r t → P t.slots
-AtEachCut_ran {P} (Ok _) t h d = subst P (sym d.0) (AtEachCut_done h)
+AtEachCut_ran (Ok _) t h d = rw d.0 (AtEachCut_done h)
 AtEachCut_ran (Err e) t h d = AtEachCut_short h d.1
 
 pub at_each_cut_append : {P : Slots → Type 0} {s : Slots} (ws vs : List Write) → AtEachCut P s ws → AtEachCut P (stood s ws) vs → AtEachCut P s (ws ++ vs)
@@ -95,6 +90,6 @@ write_done s i b (Err e) t h o d = inr (h, o, ran_then s.slots (clear_writes s.s
 
 pub write_cut : (s : State) (i : ℕ) (b : Slot) (r : Answer) (t : State) → is_err r ≡ true → i < length (shown s.slots) → s.power ≡ true → Ran s.slots (clear_writes s.slots) r t → WritingBelow s i b r t
 write_cut s i b (Ok _) t e h o d = absurd cc
-write_cut s i b (Err x) t e h o d = inr (h, o, (d.0, cut_more s.slots (clear_writes s.slots) (place_writes i b) t.slots d.1, d.2))
+write_cut s i b (Err x) t e h o d = grind (arith, cut_more)
 
 pub ruleset steps = (write_done, write_cut, length_stood)

@@ -1,12 +1,12 @@
 -- What the writes below mean above, and that they leave the unused slots alone.
-use Rattle.std.proofs.Common.{◌≡◌, ℕ, ◌+◌, ◌<◌, true, false, cond, nat_lt, ◌⊎◌, List, [], ◌∷◌, length, set, Some, None, Ok, Err, Option, refl, arith, sym, ap, ◌∙◌, subst, inl, inr, ⊎_elim, drop-set-lt}
+use Rattle.std.proofs.Common.{◌≡◌, ℕ, ◌+◌, ◌<◌, ◌⊎◌, List, [], ◌∷◌, length, set, Some, None, Ok, Err, Option, refl, arith, ap, ◌∙◌, inl, inr, ⊎_elim, drop-set-lt}
 use Rattle.std.proofs.lemmas.Bool.{cases_lt, lt-ltb, le-ltb}
 use Rattle.device.specs.Effects.{Slot, Slots, State, Answer, Writing, Restarting}
-use Rattle.journal.specs.Layout.{most_slots, mark_in, pending_in, unused_in, shown, state_shown}
+use Rattle.journal.specs.Layout.{max_slots, mark_in, pending_in, unused_in, shown, state_shown}
 use Rattle.journal.specs.Writes.{Write, clear_writes_of, clear_writes, place_writes, slot_writes, restart_writes, stood, Ran, Within, WritingBelow, RestartingBelow}
 use Rattle.journal.specs.Sized.{length_shown}
 use Rattle.journal.proofs.Runs.{stood_append, AtEachCut, none, next, AtEachCut_done, AtEachCut_short, AtEachCut_ran, at_each_cut_append, AtEachCut_weaker, within_append}
-use Rattle.journal.proofs.Clearings.{clear_none, clear_in, clear_out, Settles, settles}
+use Rattle.journal.proofs.Clearings.{Settles, settles}
 use Rattle.journal.proofs.Placings.{placing, placed}
 
 -- ---- what is shown
@@ -21,16 +21,13 @@ module _ (s : Slots) (i : ℕ) (b : Slot) (within : i < length (shown s)) where
   held = omega (arith, ap length same)
 
   written : shown (stood s (slot_writes s i b)) ≡ set (shown s) i b
-  written =
-      ap shown (stood_append s (clear_writes s) (place_writes i b))
-      ∙ placed (stood s (clear_writes s)) i b held cleared.low
-      ∙ ap (λ y. set y i b) same
+  written = rw (stood_append, placed _ i b held cleared.low, same)
 
   writing : AtEachCut (λ t. (shown t ≡ shown s) ⊎ (shown t ≡ set (shown s) i b)) s (slot_writes s i b)
   writing =
       at_each_cut_append (clear_writes s) (place_writes i b)
       (AtEachCut_weaker (λ t e. inl e) cleared.same)
-      (AtEachCut_weaker (λ t e. elim e [ inl k ↦ inl (k ∙ same) | inr k ↦ inr (k ∙ ap (λ y. set y i b) same) ]) (placing (stood s (clear_writes s)) i b held cleared.low))
+      (rw same at (placing (stood s (clear_writes s)) i b held cleared.low))
 
 pub writing_means : (s : State) (i : ℕ) (b : Slot) (r : Answer) (t : State) → WritingBelow s i b r t → Writing (state_shown s) i b r (state_shown t)
 writing_means s i b (Ok _) t (h, o, (a, q)) = (h, o, ap shown a ∙ written s.slots i b h, q)
@@ -50,39 +47,40 @@ restarting_means s (Err e) t (inl (n, a, q)) = (n, ap shown a, q)
 restarting_means s (Err e) t (inr (n, c, q)) = (n, AtEachCut_short (restarting s.slots) c, q)
 
 -- ---- what is not used
-pub within_clear : (o : Option ℕ) (s : Slots) → Within (2 + most_slots) (clear_writes_of o s)
-within_clear None s = subst (λ ws. Within (2 + most_slots) ws) (sym (clear_none s)) tt
+pub within_clear : (o : Option ℕ) (s : Slots) → Within (2 + max_slots) (clear_writes_of o s)
+unfolding clear_writes_of
+within_clear None s = tt
 within_clear (Some i) s =
     ⊎_elim
-    (λ h. subst (λ ws. Within (2 + most_slots) ws) (sym (clear_in i s h)) (omega (arith, length_shown s), (omega arith, tt)))
-    (λ h. subst (λ ws. Within (2 + most_slots) ws) (sym (clear_out i s h)) (omega arith, tt))
+    (λ h. rw (lt-ltb i (length (shown s)) h) (omega (arith, length_shown s)))
+    (λ h. rw (le-ltb i (length (shown s)) h) (omega arith))
     (cases_lt i (length (shown s)))
 
-unused : (z s : Slots) (ws : List Write) → Within (2 + most_slots) ws → unused_in s ≡ z → AtEachCut (λ t. unused_in t ≡ z) s ws
+unused : (z s : Slots) (ws : List Write) → Within (2 + max_slots) ws → unused_in s ≡ z → AtEachCut (λ t. unused_in t ≡ z) s ws
 unused z s [] h e = none e
 unused z s (w ∷ ws) h e =
-    let same = λ (x : Slot). drop-set-lt (2 + most_slots) s w.slot x h.0 ∙ e in
+    let same = λ (x : Slot). drop-set-lt (2 + max_slots) s w.slot x h.0 ∙ e in
     next (λ m. same _) (unused z (set s w.slot w.bytes) ws h.1 (same w.bytes))
 
-pub ran_unused : (s : Slots) (ws : List Write) (r : Answer) (t : State) → Within (2 + most_slots) ws → Ran s ws r t → unused_in t.slots ≡ unused_in s
+pub ran_unused : (s : Slots) (ws : List Write) (r : Answer) (t : State) → Within (2 + max_slots) ws → Ran s ws r t → unused_in t.slots ≡ unused_in s
 ran_unused s ws r t h d = AtEachCut_ran r t (unused (unused_in s) s ws h refl) d
 
-within_write : (s : Slots) (i : ℕ) (b : Slot) → i < length (shown s) → Within (2 + most_slots) (slot_writes s i b)
+within_write : (s : Slots) (i : ℕ) (b : Slot) → i < length (shown s) → Within (2 + max_slots) (slot_writes s i b)
 within_write s i b h =
-    let small : i < most_slots = omega (arith, length_shown s) in
-    within_append (2 + most_slots) (clear_writes s) (place_writes i b) (within_clear (pending_in (mark_in s)) s) (omega arith, (omega arith, (omega arith, (omega arith, (omega arith, tt)))))
+    let small : i < max_slots = omega (arith, length_shown s) in
+    within_append (2 + max_slots) (clear_writes s) (place_writes i b) (within_clear (pending_in (mark_in s)) s) (omega arith)
 
-within_restart : (s : Slots) → Within (2 + most_slots) (restart_writes s)
-within_restart s = elim (nat_lt 0 (length (shown s))) as (λ v. Within (2 + most_slots) (cond v (clear_writes s) [])) [ true ↦ within_clear (pending_in (mark_in s)) s | false ↦ tt ]
+within_restart : (s : Slots) → Within (2 + max_slots) (restart_writes s)
+within_restart s = grind (arith, within_clear)
 
 pub writing_unused : (s : State) (i : ℕ) (b : Slot) (r : Answer) (t : State) → WritingBelow s i b r t → unused_in t.slots ≡ unused_in s.slots
-writing_unused s i b (Ok u) t (h, _, d) = ran_unused s.slots (slot_writes s.slots i b) (Ok u) t (within_write s.slots i b h) d
-writing_unused s i b (Err e) t (inl d) = ap (λ x. unused_in x.slots) d.1
-writing_unused s i b (Err e) t (inr (h, _, d)) = ran_unused s.slots (slot_writes s.slots i b) (Err e) t (within_write s.slots i b h) d
+writing_unused s i b (Ok u) t (h, _, d) = ran_unused _ _ (Ok u) t (within_write s.slots i b h) d
+writing_unused s i b (Err e) t (inl d) = rw d.1 refl
+writing_unused s i b (Err e) t (inr (h, _, d)) = ran_unused _ _ (Err e) t (within_write s.slots i b h) d
 
 pub restarting_unused : (s : State) (r : Answer) (t : State) → RestartingBelow s r t → unused_in t.slots ≡ unused_in s.slots
-restarting_unused s (Ok u) t d = ran_unused s.slots (restart_writes s.slots) (Ok u) t (within_restart s.slots) d
+restarting_unused s (Ok u) t d = ran_unused _ _ (Ok u) t (within_restart s.slots) d
 restarting_unused s (Err e) t (inl d) = ap unused_in d.1
-restarting_unused s (Err e) t (inr d) = ran_unused s.slots (restart_writes s.slots) (Err e) t (within_restart s.slots) d
+restarting_unused s (Err e) t (inr d) = ran_unused _ _ (Err e) t (within_restart s.slots) d
 
 pub ruleset meanings = (writing_means, restarting_means, writing_unused, restarting_unused)

@@ -4,8 +4,8 @@ use Rattle.std.specs.Prelude.{ℕ, zero, suc, ◌+◌, ◌*◌, ◌/◌, ◌%◌
 use Rattle.device.specs.Effects.{Slot, Slots, State}
 
 -- a journal shows at most so many slots
-abbrev pub most_slots : ℕ
-most_slots = 1024
+abbrev pub max_slots : ℕ
+max_slots = 1024
 
 abbrev pub mark_in : Slots → Slot
 mark_in s = slice_index_or s 0 []
@@ -15,11 +15,11 @@ copy_in s = slice_index_or s 1 []
 
 -- what the slots of the journal hold in their own places below
 abbrev pub places_in : Slots → Slots
-places_in s = take most_slots (drop 2 s)
+places_in s = take max_slots (drop 2 s)
 
 -- the slots below past the journal's last, which it never uses
 abbrev pub unused_in : Slots → Slots
-unused_in s = drop (2 + most_slots) s
+unused_in s = drop (2 + max_slots) s
 
 -- a mark with a flag and a target: one byte, then two, then zeros
 abbrev pub mark_of : ℕ → ℕ → Slot

@@ -3,21 +3,21 @@ use Rattle.std.specs.Prelude.{◌≡◌, ℕ, ◌+◌, ◌-◌, ◌<◌, min, []
 use Rattle.std.proofs.Common.{ap, ◌∙◌, ⊎_elim, add_comm, arith, length-set, length-take, length-drop, get_or-set_same, get_or-set_other, get_or-take, get_or-drop}
 use Rattle.std.proofs.lemmas.Bool.{cases_eq}
 use Rattle.device.specs.Effects.{Slot, Slots}
-use Rattle.journal.specs.Layout.{most_slots, mark_in, copy_in, places_in, pending_in, view, shown}
+use Rattle.journal.specs.Layout.{max_slots, mark_in, copy_in, places_in, pending_in, view, shown}
 
 length_view : (o : Option ℕ) (b : Slots) (c : Slot) → length (view o b c) ≡ length b
 unfolding view
 length_view None b c = refl
 length_view (Some i) b c = length-set b i c
 
-pub length_places_in : (s : Slots) → length (places_in s) ≡ min most_slots (length s - 2)
+pub length_places_in : (s : Slots) → length (places_in s) ≡ min max_slots (length s - 2)
 length_places_in s = simp (length-take, length-drop)
 
-pub length_shown : (s : Slots) → length (shown s) ≡ min most_slots (length s - 2)
+pub length_shown : (s : Slots) → length (shown s) ≡ min max_slots (length s - 2)
 length_shown s = length_view (pending_in (mark_in s)) (places_in s) (copy_in s) ∙ length_places_in s
 
-pub get_or_places_in : (s : Slots) (i : ℕ) → i < most_slots → get_or (places_in s) i [] ≡ get_or s (i + 2) []
-get_or_places_in s i h = get_or-take most_slots (drop 2 s) i [] h ∙ get_or-drop 2 s i [] ∙ ap (λ k. get_or s k []) (add_comm 2 i)
+pub get_or_places_in : (s : Slots) (i : ℕ) → i < max_slots → get_or (places_in s) i [] ≡ get_or s (i + 2) []
+get_or_places_in s i h = get_or-take max_slots (drop 2 s) i [] h ∙ get_or-drop 2 s i [] ∙ ap (λ k. get_or s k []) (add_comm 2 i)
 
 view_sized : (w : ℕ) (o : Option ℕ) (b : Slots) (c : Slot) → ((k : ℕ) → k < length b → length (get_or b k []) ≡ w) → length c ≡ w → (k : ℕ) → k < length b → length (get_or (view o b c) k []) ≡ w
 unfolding view

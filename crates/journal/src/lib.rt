@@ -7,7 +7,7 @@
 
 ghost use Rattle.std.specs.Prelude.{◌≡◌, ◌+◌, ◌<◌, ◌≤◌, true, false, length, map, Some, None, MatchOption, MatchResult};
 ghost use Rattle.device.specs.Effects.{Writing, Restarting, slot_size, blank};
-ghost use Rattle.journal.specs.Layout.{shown, state_shown, most_slots, mark_of, mark_in, pending_in, unused_in};
+ghost use Rattle.journal.specs.Layout.{shown, state_shown, max_slots, mark_of, mark_in, pending_in, unused_in};
 ghost use Rattle.journal.specs.Ends.{WritingEnds, RestartingEnds};
 ghost use Rattle.journal.specs.Sized.{shown_sized};
 ghost use Rattle.journal.specs.Writes.{write_of, clear_writes, place_writes, Within, Ran, WritingBelow, RestartingBelow};
@@ -16,7 +16,7 @@ use device::{DeviceFault, ReadSlots, SLOT_SIZE, TearSlots, WriteSlots, blank_slo
 use std::marker::Model;
 
 /// The slots that a journal shows at most.
-pub const MOST_SLOTS: usize = 1024;
+pub const MAX_SLOTS: usize = 1024;
 
 // The places of mark and copy below, and of the journal's first slot.
 const MARK: usize = 0;
@@ -88,7 +88,7 @@ fn pending<D: ReadSlots>(d: &D) -> Result<Option<usize>, DeviceFault>
 
 // A mark with a flag and a target.
 fn mark_with(flag: u8, target: usize) -> [u8; SLOT_SIZE]
-    requires { target < most_slots }
+    requires { target < max_slots }
     ensures { result ≡ mark_of flag target }
 {
     let [high, low] = (target as u16).to_be_bytes();
@@ -101,12 +101,13 @@ fn mark_with(flag: u8, target: usize) -> [u8; SLOT_SIZE]
 #[tactic(auto, using(crate::proofs::Views::lengths))]
 fn shown_count<D: ReadSlots>(d: &D) -> usize
     ensures count { result ≡ length (shown (D.state d.now).slots) }
-    ensures bound { (result ≤ most_slots) × ((0 < result → result + 2 ≤ length (D.state d.now).slots)) }
+    ensures bound { (result ≤ max_slots) × ((0 < result → result + 2 ≤ length (D.state d.now).slots)) }
 {
-    d.count().saturating_sub(FIRST).min(MOST_SLOTS)
+    d.count().saturating_sub(FIRST).min(MAX_SLOTS)
 }
 
 // Makes writes below in their order, until the power fails at one. That the power is on is asked for, and no type says it: a cut ends it.
+#[tactic(auto, using(crate::proofs::Runs::stood_more))]
 fn run<D: TearSlots>(d: &mut D, writes: &[RawWrite]) -> Result<(), DeviceFault>
     requires on { (D.ReadSlots.state d.old).power ≡ true }
     requires within { Within (length (D.ReadSlots.state d.old).slots) (map (λ w. write_of w.0 w.1.now) writes.now) }
@@ -121,7 +122,7 @@ fn run<D: TearSlots>(d: &mut D, writes: &[RawWrite]) -> Result<(), DeviceFault>
 // Puts bytes in a slot by five writes, where no flag is raised.
 fn place<D: TearSlots>(d: &mut D, index: usize, bytes: &[u8; SLOT_SIZE]) -> Result<(), DeviceFault>
     requires on { (D.ReadSlots.state d.old).power ≡ true }
-    requires within { (index + 2 < length (D.ReadSlots.state d.old).slots) × (index < most_slots) }
+    requires within { (index + 2 < length (D.ReadSlots.state d.old).slots) × (index < max_slots) }
     ensures { Ran (D.ReadSlots.state d.old).slots (place_writes index bytes.now) result (D.ReadSlots.state d.new) }
 {
     let targeted = mark_with(LOWERED, index);
@@ -163,7 +164,7 @@ impl<D: ReadSlots> ReadSlots for Journal<D> {
 impl<D: TearSlots> Journal<D> {
     // Clears a raised flag: the copy goes to the slot that it stands for, then zeros to the mark. The copy passes through the pad, and
     // nothing is left there.
-    #[tactic(auto, using(crate::proofs::Clearings::clearing))]
+    #[tactic(auto, unfolding(crate::specs::Writes::clear_writes_of))]
     fn clear(&mut self, pending: Option<usize>) -> Result<(), DeviceFault>
         requires on { (D.ReadSlots.state self.old).power ≡ true }
         requires pending { pending ≡ pending_in (mark_in (D.ReadSlots.state self.old).slots) }

@@ -1,20 +1,20 @@
 -- Servers that agree answer alike: their chains are equal, and each further call answers the same and leaves them in agreement.
-use Rattle.std.proofs.Common.{◌≡◌, ℕ, ◌+◌, ◌-◌, ◌<◌, ◌≤◌, Bool, true, false, List, length, sym, refl, ap, ◌∙◌, ap₂, inl, inr, arith}
+use Rattle.std.proofs.Common.{◌≡◌, ℕ, ◌+◌, ◌-◌, ◌<◌, ◌≤◌, Bool, true, false, List, length, sym, refl, ◌∙◌, inl, inr, arith}
 use Rattle.device.specs.Effects.{Slots, State}
 use Rattle.tree.specs.declared.Node.{Node}
 use Rattle.tree.specs.Nodes.{tree_levels, node_at, IsNode, Covers}
 use Rattle.tree.specs.Cover.{In, Free, cover}
-use Rattle.tree.specs.Values.{way, valued, value_of, key_of, valued_cover}
+use Rattle.tree.specs.Values.{way, key_of, valued_cover}
 use Rattle.tree.proofs.Places.{covered_below, cover_free, cover_under}
 use Rattle.tree.proofs.Exact.{at_most_one}
 use Rattle.tree.proofs.Bounds.{same_set}
 use Rattle.tree.proofs.Descent.{values_are, agreed}
-use Rattle.rules.specs.Kits.{Kit, Lawful}
-use Rattle.rules.specs.Tickets.{number_in, heading_in}
-use Rattle.rules.specs.Files.{entry}
-use Rattle.rules.specs.Calls.{Outcome, Issuing, Redeeming}
-use Rattle.rules.specs.Books.{Book, raised, noted, issue, redeem, fed}
-use Rattle.rules.specs.Pasts.{running, Past}
+use Rattle.calls.specs.Kits.{Kit, Lawful}
+use Rattle.ticket.specs.Parts.{number_in, heading_in}
+use Rattle.chain.specs.Listing.{entry}
+use Rattle.calls.specs.Calls.{Outcome, Issuing, Redeeming}
+use Rattle.calls.specs.Books.{Book, noted, issue, redeem, fed}
+use Rattle.calls.specs.Pasts.{running, Past}
 use Rattle.law.specs.Law.{Uncut, Ask, Reply, Served, done, issues, redeems, Agree, AlikeLaw}
 use Rattle.law.proofs.Invariant.{head_for, Inv}
 use Rattle.law.proofs.TicketParts.{follow_long}
@@ -31,9 +31,7 @@ module _ {d : ℕ} {k : Kit} {root : List ℕ} {s : Slots} {b : Book} {k' : Kit}
   covers_same = same_set d b.spent b'.spent a.spent
 
   valued_same : valued_cover k.generator.expansion d root b.spent ≡ valued_cover k'.generator.expansion d root' b'.spent
-  valued_same =
-      agreed d b.spent (value_of k.generator.expansion d root) (value_of k'.generator.expansion d root') a.values
-      ∙ ap (valued (value_of k'.generator.expansion d root')) covers_same
+  valued_same = grind (arith, agreed, covers_same)
 
   view_same : (name : List ℕ) → view_of k' d name s' b' ≡ view_of k d name s b
   view_same name = let c = covers_same in cc
@@ -53,14 +51,7 @@ module _ {d : ℕ} {k : Kit} {root : List ℕ} {s : Slots} {b : Book} {k' : Kit}
 issue_agree : {d : ℕ} {k : Kit} {root : List ℕ} {s : Slots} {b : Book} {k' : Kit} {root' : List ℕ} {s' : Slots} {b' : Book} {t t' : Slots} (plain : List ℕ) (r r' : Outcome) (u u' : List ℕ) (j j' : Bool) →
     Agree d k root s b k' root' s' b' → length t ≡ length s → length t' ≡ length s' → j ≡ j' →
     Agree d k root t (fed b (issue plain r u j)) k' root' t' (fed b' (issue plain r' u' j'))
-issue_agree plain r r' u u' j j' a l l' e = record {
-  sealing = a.sealing;
-  overhead = a.overhead;
-  slots = l ∙ (a.slots ∙ sym l');
-  issued = ap₂ raised e a.issued;
-  spent = a.spent;
-  values = a.values;
-}
+issue_agree plain r r' u u' j j' a l l' e = grind (arith)
 
 noted_in : (j : Bool) (n m : ℕ) (ms : List ℕ) → In m ms → In m (noted j n ms)
 noted_in true n m ms i = inr i

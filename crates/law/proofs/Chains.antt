@@ -1,21 +1,13 @@
 -- Chains in slots, put together from two: their slots, their nodes with values, and how each record leads to the next.
-use Rattle.std.proofs.Common.{◌≡◌, ℕ, ◌<◌, ◌⊎◌, List, [], ◌∷◌, ◌++◌, length, refl, inl, inr, arith}
-use Rattle.std.proofs.lemmas.List.{map-append}
+use Rattle.std.proofs.Common.{◌≡◌, ℕ, ◌<◌, List, [], ◌∷◌, ◌++◌, length, refl, inl, inr, arith}
 use Rattle.device.specs.Effects.{Slots}
 use Rattle.tree.specs.Cover.{In, Distinct}
-use Rattle.tree.proofs.Members.{in_right, in_cases}
-use Rattle.chain.proofs.Chains.{slot_left}
+use Rattle.chain.proofs.Members.{slot_left, slot_right, slot_cases}
 use Rattle.chain.specs.Reading.{Link, slots_of}
-use Rattle.rules.specs.Files.{entry}
+use Rattle.chain.specs.Listing.{entry}
 use Rattle.law.proofs.Invariant.{Linked}
 
 -- ---- the slots
-pub slot_right : (j : ℕ) (xs ys : List Link) → In j (slots_of ys) → In j (slots_of (xs ++ ys))
-slot_right j xs ys m = rw (map-append (λ (x : Link). x.slot) xs ys) (in_right j (slots_of xs) (slots_of ys) m)
-
-pub slot_cases : (j : ℕ) (xs ys : List Link) → In j (slots_of (xs ++ ys)) → In j (slots_of xs) ⊎ In j (slots_of ys)
-slot_cases j xs ys m = in_cases j (slots_of xs) (slots_of ys) (rw (map-append (λ (x : Link). x.slot) xs ys) at m)
-
 -- no two the same, in both of two chains and across them
 pub record Apart (xs ys : List Link) : Type 0 where
   pub front : Distinct (slots_of xs)

@@ -6,8 +6,8 @@ use Rattle.tree.specs.Cover.{In}
 use Rattle.chain.specs.Reading.{Link, slots_of}
 use Rattle.steps.specs.OneStep.{Write}
 use Rattle.steps.specs.Writes.{stood}
-use Rattle.rules.specs.Kits.{Kit}
-use Rattle.rules.specs.Calls.{count_fits}
+use Rattle.calls.specs.Kits.{Kit}
+use Rattle.calls.specs.Calls.{count_fits}
 use Rattle.law.proofs.Invariant.{Linked, Stands}
 
 -- ---- lists of writes

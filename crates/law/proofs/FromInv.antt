@@ -6,7 +6,7 @@ use Rattle.refusal.specs.declared.Refusal.TheVariants.{NoFreeSlot, NoPower}
 use Rattle.fault.specs.Faults.{placed}
 use Rattle.fault.specs.declared.Halt.{Halt}
 use Rattle.device.specs.Effects.{State}
-use Rattle.session.specs.Limits.{most_length}
+use Rattle.session.specs.Limits.{max_record}
 use Rattle.session.proofs.Trip.{least as shortest}
 use Rattle.layout.specs.declared.Head.{Head}
 use Rattle.tree.specs.declared.Node.{Node}
@@ -17,20 +17,23 @@ use Rattle.tree.proofs.Exact.{at_most_one}
 use Rattle.tree.proofs.Fewest.{least}
 use Rattle.tree.proofs.Keys.{keys_of}
 use Rattle.marks.specs.Rows.{room_of}
-use Rattle.chain.specs.Reading.{Link, file_of, sound}
-use Rattle.rules.specs.Kits.{Kit, Lawful, numbers_in}
-use Rattle.rules.specs.Tickets.{number_in, heading_in, ticket_least, ticket_longest}
-use Rattle.rules.specs.Files.{entry, free_count}
-use Rattle.rules.proofs.Counting.{by_levels}
-use Rattle.rules.specs.Calls.{Sound, Outcome, redeem_verdict, Hit, Seals, Redeeming, declined, spent, shut, strange, full, cut, opened}
-use Rattle.rules.specs.Books.{Given, Book}
-use Rattle.rules.specs.Pasts.{Mode, running}
+use Rattle.chain.specs.Reading.{Link, file_of, Sound}
+use Rattle.calls.specs.Kits.{Kit, Lawful, numbers_in}
+use Rattle.ticket.specs.Limits.{ticket_least, ticket_longest}
+use Rattle.ticket.specs.Parts.{number_in, heading_in}
+use Rattle.calls.specs.Files.{free_count}
+use Rattle.chain.specs.Listing.{entry}
+use Rattle.calls.proofs.Counting.{by_levels}
+use Rattle.calls.specs.Calls.{Outcome, redeem_verdict, Hit, Seals, Redeeming, declined, spent, shut, strange, full, cut, opened}
+use Rattle.calls.specs.Books.{Given, Book}
+use Rattle.calls.specs.Pasts.{Mode, running}
 use Rattle.law.specs.Law.{CoverLaw, Uncut, OnceLaw, RestBlank}
+use Rattle.calls.proofs.Same.{same_self}
 use Rattle.law.proofs.Invariant.{head_for, file_for, Inv}
 use Rattle.law.proofs.Links.{link_count, link_over, link_is, key_is}
-use Rattle.law.proofs.ReadsBack.{reads_back}
+use Rattle.law.proofs.ReadsBack.{reads_back, links_read}
 use Rattle.law.proofs.Readings.{MayRedeem, entry_open, redeem_ok, inv_reads, file_is, hit_may, hit_in}
-use Rattle.law.proofs.TicketParts.{follow_long, same_self, number_is, name_is, heading_in_long, state_most, seals_state, ticket_long}
+use Rattle.law.proofs.TicketParts.{follow_long, number_is, name_is, heading_in_long, state_most, seals_state, ticket_long}
 
 -- ---- the chain is the cover
 pub cover_law : {k : Kit} {d : ℕ} {root name : List ℕ} {m : Mode} {s : State} {b : Book} → d ≤ 16 → Inv k d root name m s b → CoverLaw k d root name s.slots b
@@ -48,11 +51,8 @@ cover_law {k = k} {d = d} {root = root} {name = name} {b = b} l v =
 
 -- a chain that is read is the one that stands, so the slots beside it are zero
 pub rest_read : {k : Kit} {d : ℕ} {root name : List ℕ} {s : State} {b : Book} → d ≤ 16 → Inv k d root name running s b →
-    (h : Head) (xs : List Link) → file_of d (numbers_in k) s.slots ≡ sound h xs → RestBlank s.slots xs
-rest_read l v h xs e =
-    let r = reads_back l v in
-    let q : xs ≡ v.links = cc in
-    rw q (v.rest refl)
+    (h : Head) (xs : List Link) → file_of d (numbers_in k) s.slots ≡ Ok (h, xs) → RestBlank s.slots xs
+rest_read l v h xs e = rw (links_read l v e) (v.rest refl)
 
 -- ---- its own
 -- how the redemption of the ticket g can end, where so many slots are free and its number lies under x
@@ -65,16 +65,16 @@ data Ends (d free room : ℕ) (x : Node) (g : Given) (r : Outcome) (state : List
 module _ {k : Kit} (lawful : Lawful k) {d : ℕ} {root name : List ℕ} {s : State} {b : Book} (deep : d ≤ 16) (v : Inv k d root name running s b)
     (g : Given) (given : In g b.given) (x : Node) (here : In x (cover d b.spent)) (under : Covers d x g.number) where
   -- nothing stops its redemption before the chain is searched
-  verdict_is : (room marks : ℕ) → most_length ≤ room → room_of (length s.slots) ≤ marks → redeem_verdict k d s g.ticket room marks ≡ Ok (file_for k name b.issued v.links)
+  verdict_is : (room marks : ℕ) → max_record ≤ room → room_of (length s.slots) ≤ marks → redeem_verdict k d s g.ticket room marks ≡ Ok (file_for k name b.issued v.links)
   verdict_is room marks r m =
       let most = state_most deep v g given in
       let long = ticket_long deep v g given lawful in
       let n = number_is deep v g given in
       rw (
-        entry_open d s.slots most_length room marks r m v.stands.fits,
+        entry_open d s.slots max_record room marks r m v.stands.fits,
         inv_reads deep v,
-        le-leb (ticket_least k) (length g.ticket) (omega (arith, shortest g.state (v.records g given))),
-        le-leb (length g.ticket) (ticket_longest k) (omega arith),
+        le-leb (ticket_least k.sealer.overhead) (length g.ticket) (omega (arith, shortest g.state (v.records g given))),
+        le-leb (length g.ticket) (ticket_longest k.sealer.overhead) (omega arith),
         name_is deep v g given,
         same_self name,
         lt-ltb (number_in g.ticket) b.issued (omega (arith, v.issued g given)),
@@ -107,7 +107,7 @@ module _ {k : Kit} (lawful : Lawful k) {d : ℕ} {root name : List ℕ} {s : Sta
       let e : y.node.depth ≡ x.depth = ap (λ (z : Node). z.depth) (node_is y (hit_in deep v h) h.covers) in
       (omega arith, omega arith)
 
-  ends : {room marks : ℕ} → most_length ≤ room → room_of (length s.slots) ≤ marks →
+  ends : {room marks : ℕ} → max_record ≤ room → room_of (length s.slots) ≤ marks →
       {r : Outcome} {state : List ℕ} {t : State} {joined : Bool} → Redeeming k d s g.ticket room marks r state t joined → Ends d (length s.slots - 1 - length (cover d b.spent)) room x g r state
   ends {room = room} {marks = marks} lr lm (declined h q e u j) = let w = verdict_is room marks lr lm in absurd (cc)
   ends {room = room} {marks = marks} lr lm (spent f q no-link e u j) =
@@ -135,7 +135,7 @@ module _ {k : Kit} (lawful : Lawful k) {d : ℕ} {root name : List ℕ} {s : Sta
       opening (omega arith) (cc) (cc)
 
   -- with room for the puncture and no cut, only the opening is left
-  opens_own : d - x.depth ≤ length s.slots - 1 - length (cover d b.spent) → (room marks : ℕ) → most_length ≤ room → room_of (length s.slots) ≤ marks →
+  opens_own : d - x.depth ≤ length s.slots - 1 - length (cover d b.spent) → (room marks : ℕ) → max_record ≤ room → room_of (length s.slots) ≤ marks →
       (r : Outcome) (state : List ℕ) (t : State) (joined : Bool) → Redeeming k d s g.ticket room marks r state t joined → Uncut r →
       (r ≡ Ok (length g.state, d - x.depth)) × (state ≡ filled g.state room)
   opens_own enough room marks lr lm r state t joined call uncut =
@@ -146,7 +146,7 @@ module _ {k : Kit} (lawful : Lawful k) {d : ℕ} {root name : List ℕ} {s : Sta
       ]
 
   -- with too few free slots it is declined for that
-  pub full_own : length s.slots - 1 - length (cover d b.spent) < d - x.depth → {room marks : ℕ} → most_length ≤ room → room_of (length s.slots) ≤ marks →
+  pub full_own : length s.slots - 1 - length (cover d b.spent) < d - x.depth → {room marks : ℕ} → max_record ≤ room → room_of (length s.slots) ≤ marks →
       {r : Outcome} {state : List ℕ} {t : State} {joined : Bool} → Redeeming k d s g.ticket room marks r state t joined → r ≡ Err (placed NoFreeSlot g.number)
   full_own few lr lm call =
       elim (ends lr lm call) [

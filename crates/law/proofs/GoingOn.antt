@@ -8,32 +8,32 @@ use Rattle.tree.specs.Cover.{In}
 use Rattle.tree.specs.Values.{key_of, key_from}
 use Rattle.marks.specs.Rows.{room_of}
 use Rattle.layout.specs.declared.Head.{Head}
-use Rattle.chain.specs.Reading.{Link, file_of, sound}
-use Rattle.sealer.specs.Limits.{name_length}
+use Rattle.chain.specs.Reading.{Link, file_of}
+use Rattle.ticket.specs.Limits.{name_length}
 use Rattle.generator.specs.Bytes.{value_length}
-use Rattle.rules.specs.Kits.{Kit, numbers_in}
-use Rattle.rules.specs.Tickets.{number_in}
+use Rattle.calls.specs.Kits.{Kit, numbers_in}
+use Rattle.ticket.specs.Parts.{number_in}
 use Rattle.steps.specs.Writes.{stood}
-use Rattle.rules.specs.Files.{make_writes, sweep_writes}
-use Rattle.rules.specs.Calls.{count_fits, slots_least, slots_most, powered, Making, Reopening}
-use Rattle.rules.specs.Books.{Given, Book, fresh_book, issue, redeem, reopen, fed}
-use Rattle.rules.specs.Pasts.{running, cold, Past, issued, redeemed, reopened}
+use Rattle.calls.specs.Files.{make_writes, sweep_writes}
+use Rattle.calls.specs.Calls.{count_fits, min_slots, max_slots, powered, Making, Reopening}
+use Rattle.calls.specs.Books.{Given, Book, fresh_book, issue, redeem, reopen, fed}
+use Rattle.calls.specs.Pasts.{running, cold, Past, issued, redeemed, reopened}
 use Rattle.law.specs.GoingOn.{IssueOutcome, RedeemOutcome, IsSealed, Opens, PastsGoOn}
 use Rattle.law.proofs.Invariant.{file_for, Inv}
 use Rattle.law.proofs.TicketParts.{state_most, seals_state}
 use Rattle.law.proofs.Links.{key_is}
-use Rattle.law.proofs.ReadsBack.{reads_back}
+use Rattle.law.proofs.ReadsBack.{links_read}
 use Rattle.law.proofs.Readings.{entry_open, is_powered, inv_read}
 use Rattle.law.proofs.PastKeeps.{small, holding}
 use Rattle.law.proofs.Telling.{uncut_running}
 use Rattle.law.proofs.Outcomes.{outcomes}
 
 pub begins : (k : Kit) (root name : List ℕ) (s : State) → length root ≡ value_length → length name ≡ name_length →
-    slots_least tree_levels ≤ length s.slots → length s.slots ≤ slots_most →
+    min_slots tree_levels ≤ length s.slots → length s.slots ≤ max_slots →
     (t : Slots) × Making k tree_levels s root name (Ok tt) (powered t) true × Past k tree_levels root name running (powered t) fresh_book
 begins k root name s lr ln least most =
     let t = stood s.slots (make_writes k tree_levels s.slots root name) in
-    let fits : count_fits tree_levels s.slots ≡ true = rw (le-leb (slots_least tree_levels) (length s.slots) least, le-leb (length s.slots) slots_most most) in
+    let fits : count_fits tree_levels s.slots ≡ true = rw (le-leb (min_slots tree_levels) (length s.slots) least, le-leb (length s.slots) max_slots most) in
     let made = Making.made fits refl refl refl refl in
     (t, made, Past.made s (Ok tt) (powered t) lr ln made)
 
@@ -52,12 +52,9 @@ module _ (k : Kit) (root name : List ℕ) (s : State) (b : Book) (p : Past k tre
       (o : RedeemOutcome k tree_levels s ticket room marks) × Past k tree_levels root name running o.after (fed b (redeem ticket o.outcome o.joined))
   redeems ticket room marks known =
       let n = number_in ticket in
-      let file = reads_back small v in
-      let told : (h : Head) (xs : List Link) (x : Link) → file_of tree_levels (numbers_in k) s.slots ≡ sound h xs → In x xs → Covers tree_levels x.node n →
+      let told : (h : Head) (xs : List Link) (x : Link) → file_of tree_levels (numbers_in k) s.slots ≡ Ok (h, xs) → In x xs → Covers tree_levels x.node n →
       Opens k (key_from k.generator.expansion tree_levels x.node x.value n) ticket =
-      λ h xs x e i c.
-      let q : xs ≡ v.links = cc in
-      rw (key_is v x n (rw q at i) c) known in
+      λ h xs x e i c. rw (key_is v x n (rw (links_read small v e) at i) c) known in
       let o : RedeemOutcome k tree_levels s ticket room marks = rw (is_powered small v) (outcomes.redeem k tree_levels s.slots ticket room marks told) in
       let q = redeemed s b ticket room marks o.outcome o.state o.after o.joined p o.call in
       (o, rw (uncut_running o.outcome o.uncut) at q)

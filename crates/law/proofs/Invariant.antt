@@ -6,15 +6,16 @@ use Rattle.layout.specs.Records.{encode_head}
 use Rattle.session.specs.Records.{is_record}
 use Rattle.tree.specs.Cover.{In, Distinct}
 use Rattle.tree.specs.Values.{key_of, valued_cover}
-use Rattle.chain.specs.Reading.{Link, valued_of, slots_of}
-use Rattle.sealer.specs.Limits.{name_length}
+use Rattle.chain.specs.Reading.{Link, valued_of, slots_of, Sound}
+use Rattle.ticket.specs.Limits.{name_length}
 use Rattle.generator.specs.Bytes.{value_length}
-use Rattle.rules.specs.Kits.{Kit, numbers_in}
-use Rattle.rules.specs.Tickets.{ticket_of}
-use Rattle.rules.specs.Files.{entry, record_of}
-use Rattle.rules.specs.Calls.{count_fits}
-use Rattle.rules.specs.Books.{Given, Book}
-use Rattle.rules.specs.Pasts.{Mode, running}
+use Rattle.calls.specs.Kits.{Kit, numbers_in}
+use Rattle.calls.specs.Tickets.{ticket_of}
+use Rattle.chain.specs.Listing.{entry}
+use Rattle.calls.specs.Files.{record_of}
+use Rattle.calls.specs.Calls.{count_fits}
+use Rattle.calls.specs.Books.{Given, Book}
+use Rattle.calls.specs.Pasts.{Mode, running}
 use Rattle.law.specs.Law.{RestBlank}
 
 -- each link stands in its slot as a record that leads to the next, the last one on to i
@@ -26,7 +27,7 @@ abbrev pub head_for : Kit → List ℕ → ℕ → ℕ → Head
 head_for k name issued i = record { first = i; issued = issued; name = name; numbers = numbers_in k }
 
 -- the head and the chain that are then read
-abbrev pub file_for : Kit → List ℕ → ℕ → List Link → Head × List Link
+abbrev pub file_for : Kit → List ℕ → ℕ → List Link → Sound
 file_for k name issued xs = (head_for k name issued (entry xs 0), xs)
 
 -- the file with so many numbers issued and these links stands in the slots

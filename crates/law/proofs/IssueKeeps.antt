@@ -11,14 +11,14 @@ use Rattle.layout.specs.Records.{encode_head, recounted}
 use Rattle.tree.specs.Nodes.{Covers}
 use Rattle.tree.specs.Cover.{In}
 use Rattle.tree.specs.Values.{key_of}
-use Rattle.chain.specs.Reading.{Link}
-use Rattle.rules.specs.Kits.{Kit}
-use Rattle.rules.specs.Tickets.{ticket_of}
+use Rattle.chain.specs.Reading.{Link, Sound}
+use Rattle.calls.specs.Kits.{Kit}
+use Rattle.calls.specs.Tickets.{ticket_of}
 use Rattle.steps.specs.Writes.{stood, CutShort}
-use Rattle.rules.specs.Files.{entry, issue_write}
-use Rattle.rules.specs.Calls.{Sound, Outcome, issued_ticket, Issuing, declined, cut, given}
-use Rattle.rules.specs.Books.{Given, Book, raised, issue, fed}
-use Rattle.rules.specs.Pasts.{Mode, running, cold, mode_after}
+use Rattle.calls.specs.Files.{issue_write}
+use Rattle.calls.specs.Calls.{Outcome, issued_ticket, Issuing, declined, cut, given}
+use Rattle.calls.specs.Books.{Given, Book, raised, issue, fed}
+use Rattle.calls.specs.Pasts.{Mode, running, cold, mode_after}
 use Rattle.law.specs.Law.{RestBlank}
 use Rattle.law.proofs.Invariant.{head_for, file_for, Stands, Inv}
 use Rattle.law.proofs.Frames.{count_least, count_kept, linked_set}
@@ -32,15 +32,7 @@ unfolding encode_head bytes_of
 recounted_head k d name issued i n = refl
 
 stands_recounted : {k : Kit} {d : ℕ} {name : List ℕ} {n : ℕ} {s : Slots} {xs : List Link} → Stands k d name n s xs → Stands k d name (n + 1) (set s 0 (recounted (n + 1) (get_or s 0 []))) xs
-stands_recounted {k = k} {d = d} {name = name} {n = n} {s = s} {xs = xs} v =
-    let b = recounted (n + 1) (get_or s 0 []) in
-    let l = count_least d s v.fits in
-    record {
-      fits = count_kept d s (set s 0 b) (length-set s 0 b) v.fits;
-      head = get_or-set_same s 0 b [] (omega arith) ∙ (ap (recounted (n + 1)) v.head ∙ recounted_head k d name n (entry xs 0) (n + 1));
-      links = linked_set s xs 0 0 b (not_zero s xs 0 v.links) v.links;
-      apart = v.apart;
-    }
+stands_recounted {k = k} {d = d} {name = name} {n = n} {s = s} {xs = xs} v = grind (arith, count_least, count_kept, length-set, get_or-set_same, recounted_head, linked_set, not_zero)
 
 -- a write to the head leaves the rest blank
 rest_headed : (s : Slots) (b : Slot) (xs : List Link) → RestBlank s xs → RestBlank (set s 0 b) xs

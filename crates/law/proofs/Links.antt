@@ -10,16 +10,12 @@ use Rattle.tree.proofs.Places.{characterised}
 use Rattle.tree.proofs.Descent.{key_from_is}
 use Rattle.chain.specs.Reading.{Link, valued_of}
 use Rattle.chain.specs.Sound.{nodes_of}
+use Rattle.chain.proofs.Members.{in_map}
 use Rattle.device.specs.Effects.{State}
-use Rattle.rules.specs.Kits.{Kit}
-use Rattle.rules.specs.Books.{Book}
-use Rattle.rules.specs.Pasts.{Mode}
+use Rattle.calls.specs.Kits.{Kit}
+use Rattle.calls.specs.Books.{Book}
+use Rattle.calls.specs.Pasts.{Mode}
 use Rattle.law.proofs.Invariant.{Inv}
-
-pub in_map : {A B : Type 0} (f : A → B) (x : A) (xs : List A) → In x xs → In (f x) (map f xs)
-in_map f x [] i = absurd i
-in_map f x (y ∷ ys) (inl e) = inl (ap f e)
-in_map f x (y ∷ ys) (inr i) = inr (in_map f x ys i)
 
 -- each node of a chain is a link's
 pub link_of : (xs : List Link) (y : Node) → In y (nodes_of xs) → (x : Link) × In x xs × (x.node ≡ y)

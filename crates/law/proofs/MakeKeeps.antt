@@ -1,5 +1,5 @@
 -- A make whose head write stands begins what holds: the root's record alone on the chain, and zeros in all other slots.
-use Rattle.std.proofs.Common.{◌≡◌, ℕ, zero, suc, ◌+◌, ◌<◌, ◌≤◌, true, List, [], ◌∷◌, length, get_or, set, Result, sym, refl, ap, ◌∙◌, inl, inr, arith, length-append, length-set, take_all, get_or-set_other, get_or-set_same}
+use Rattle.std.proofs.Common.{◌≡◌, ℕ, zero, suc, ◌+◌, ◌<◌, ◌≤◌, true, List, [], ◌∷◌, length, get_or, Result, sym, refl, ap, ◌∙◌, inl, inr, arith, length-append, length-set, take_all, get_or-set_other, get_or-set_same}
 use Rattle.std.proofs.lemmas.Bool.{cases_eq, ltb-true}
 use Rattle.device.specs.Effects.{Slots, blank, State}
 use Rattle.fault.specs.declared.Halt.{Halt}
@@ -10,15 +10,15 @@ use Rattle.layout.specs.Records.{encode_head, encode_node}
 use Rattle.tree.specs.Nodes.{root_node}
 use Rattle.tree.specs.Cover.{In}
 use Rattle.chain.specs.Reading.{Link}
-use Rattle.sealer.specs.Limits.{name_length}
+use Rattle.ticket.specs.Limits.{name_length}
 use Rattle.generator.specs.Bytes.{value_length}
-use Rattle.rules.specs.Kits.{Kit}
+use Rattle.calls.specs.Kits.{Kit}
 use Rattle.steps.specs.OneStep.{Write}
 use Rattle.steps.specs.Writes.{stood, CutShort}
-use Rattle.rules.specs.Files.{blank_writes, root_record, first_head, make_writes}
-use Rattle.rules.specs.Calls.{count_fits, Making, declined, stopped, cut, made}
-use Rattle.rules.specs.Books.{fresh_book}
-use Rattle.rules.specs.Pasts.{Mode, running, cold, mode_of}
+use Rattle.calls.specs.Files.{blank_writes, root_record, first_head, make_writes}
+use Rattle.calls.specs.Calls.{count_fits, Making, declined, stopped, cut, made}
+use Rattle.calls.specs.Books.{fresh_book}
+use Rattle.calls.specs.Pasts.{Mode, running, cold, mode_of}
 use Rattle.law.specs.Law.{RestBlank}
 use Rattle.law.proofs.Invariant.{Stands, Inv}
 use Rattle.steps.proofs.Plans.{length_stood, stood_append}
@@ -67,26 +67,10 @@ module _ (k : Kit) (d : ℕ) (root name : List ℕ) (z : Slots) (fits : count_fi
   chain = record { slot = 1; node = root_node; value = root } ∷ []
 
   stands : Stands k d name 0 (stood z (made_of k d root name)) chain
-  stands =
-      let u = set z 1 (root_record root) in
-      let h = encode_head d (first_head k name) in
-      let m = count_least d z fits in
-      let l = length-set z 1 (root_record root) in
-      let a = length-set u 0 h in
-      record {
-        fits = count_kept d z (stood z (made_of k d root name)) (omega arith) fits;
-        head = get_or-set_same u 0 h [] (omega arith);
-        links = (omega arith, omega arith, get_or-set_other u 0 1 h [] (λ q. omega arith) ∙ get_or-set_same z 1 (root_record root) [] (omega arith), tt);
-        apart = (λ i. i, tt);
-      }
+  stands = grind (arith, count_least, length-set, count_kept, get_or-set_same, get_or-set_other)
 
   rest : RestBlank (stood z (made_of k d root name)) chain
-  rest i above within off =
-      let u = set z 1 (root_record root) in
-      let l = length-set z 1 (root_record root) in
-      let a = length-set u 0 (encode_head d (first_head k name)) in
-      get_or-set_other u 0 i (encode_head d (first_head k name)) [] (λ q. omega arith)
-      ∙ (get_or-set_other z 1 i (root_record root) [] (λ q. off (inl q)) ∙ zeros i (omega arith))
+  rest i above within off = grind (arith, length-set, get_or-set_other)
 
   whole : Whole (stood z (made_of k d root name))
   whole = whole_stood (made_of k d root name) z
@@ -97,25 +81,7 @@ module _ (k : Kit) (d : ℕ) (root name : List ℕ) (z : Slots) (fits : count_fi
       (λ i l e. zeros i l)
 
   begun : (m : Mode) (t : State) → t.slots ≡ stood z (made_of k d root name) → length root ≡ value_length → length name ≡ name_length → (m ≡ running → t.power ≡ true) → Inv k d root name m t fresh_book × Whole t.slots
-  begun m t e lr ln p = (
-    record {
-      links = chain;
-      stands = rw e stands;
-      covers = refl;
-      counted = omega arith;
-      below = λ n i. absurd i;
-      rooted = lr;
-      named = ln;
-      power = p;
-      rest = λ q. rw e rest;
-      once = tt;
-      opened = λ n i. absurd i;
-      issued = λ g i. absurd i;
-      records = λ g i. absurd i;
-      tickets = λ g i. absurd i;
-    },
-    rw e whole,
-  )
+  begun m t e lr ln p = grind (arith, stands, rest, whole)
 
 -- of a make whose head write stands: so all of its writes do
 module _ (k : Kit) (d : ℕ) (root name : List ℕ) (s : Slots) (fits : count_fits d s ≡ true) where
@@ -128,10 +94,7 @@ module _ (k : Kit) (d : ℕ) (root name : List ℕ) (s : Slots) (fits : count_fi
 
   -- a cut after which it stands came at that write
   all_stand : {m : ℕ} {h : Halt} {t : Slots} → CutShort s (make_writes k d s root name) m h t → length s + 1 < m → t ≡ stood s (make_writes k d s root name)
-  all_stand {m = m} c l =
-      let a = length-append (blank_writes 0 (length s)) (made_of k d root name) in
-      let n = length_blanks (length s) 0 in
-      c.slots ∙ ap (stood s) (take_all m (make_writes k d s root name) (omega arith))
+  all_stand {m = m} c l = grind (arith, length-append, length_blanks, take_all)
 
 pub make_holds : {k : Kit} {d : ℕ} {root name : List ℕ} {s : State} {r : Result (Unit {0}) Halt} {t : State} →
     length root ≡ value_length → length name ≡ name_length → Making k d s root name r t true → Inv k d root name (mode_of r) t fresh_book × Whole t.slots

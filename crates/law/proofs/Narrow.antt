@@ -6,8 +6,8 @@ use Rattle.device.specs.Effects.{State}
 use Rattle.tree.specs.Nodes.{tree_levels, node_at}
 use Rattle.tree.specs.Cover.{In, cover}
 use Rattle.marks.specs.Rows.{room_of}
-use Rattle.rules.specs.Kits.{Kit, Lawful}
-use Rattle.rules.specs.Books.{Given, Book}
+use Rattle.calls.specs.Kits.{Kit, Lawful}
+use Rattle.calls.specs.Books.{Given, Book}
 use Rattle.law.specs.Examples.{Narrow, TwoPasses, FourDeclined, NarrowServer}
 use Rattle.law.proofs.PastKeeps.{small, holding}
 use Rattle.law.proofs.FromInv.{once_law, full_own}

@@ -6,19 +6,19 @@ use Rattle.octets.specs.Buffers.{zeros}
 use Rattle.octets.specs.Fields.{number_of}
 use Rattle.fault.specs.declared.Halt.{Halt}
 use Rattle.device.specs.Effects.{blank, State}
-use Rattle.session.specs.Limits.{most_length}
+use Rattle.session.specs.Limits.{max_record}
 use Rattle.session.specs.Records.{is_record, record_suite, laid_out}
 use Rattle.tree.specs.Nodes.{tree_levels, root_node}
 use Rattle.tree.specs.Cover.{In, cover}
 use Rattle.tree.proofs.Computed.{examples}
 use Rattle.marks.specs.Rows.{room_of}
-use Rattle.sealer.specs.Limits.{name_length}
+use Rattle.ticket.specs.Limits.{name_length}
 use Rattle.generator.specs.Bytes.{value_length}
-use Rattle.rules.specs.Kits.{Kit, Lawful}
-use Rattle.rules.specs.Tickets.{ticket_most}
-use Rattle.rules.specs.Calls.{Outcome, powered, Making, Redeeming, spent, shut, strange, full, opened}
-use Rattle.rules.specs.Books.{Given, Book, fresh_book, issue, redeem, fed}
-use Rattle.rules.specs.Pasts.{running, Past}
+use Rattle.calls.specs.Kits.{Kit, Lawful}
+use Rattle.ticket.specs.Limits.{max_ticket}
+use Rattle.calls.specs.Calls.{Outcome, powered, Making, Redeeming, spent, shut, strange, full, opened}
+use Rattle.calls.specs.Books.{Given, Book, fresh_book, issue, redeem, fed}
+use Rattle.calls.specs.Pasts.{running, Past}
 use Rattle.law.specs.Examples.{Narrow, NarrowServer}
 use Rattle.law.specs.GoingOn.{IssueOutcome, RedeemOutcome}
 use Rattle.steps.proofs.Plans.{length_stood}
@@ -66,11 +66,11 @@ module _ {k : Kit} {root name : List ℕ} {n : ℕ} (few : n < 2 ^ tree_levels) 
   marks = room_of (length w.s.slots)
 
   -- nothing stops an issue of a record
-  bar_is : issue_bar (view_of k tree_levels name w.s.slots w.b) shortest ticket_most marks ≡ Ok tt
-  bar_is = rw (w.slots, le-leb (room_of 18) (room_of 18) (omega arith), shortest_record, w.issued, lt-ltb n (2 ^ tree_levels) few)
+  bar_is : issue_bar (view_of k tree_levels name w.s.slots w.b) shortest max_ticket marks ≡ Ok tt
+  bar_is = grind (arith, le-leb, shortest_record, lt-ltb)
 
   -- an issue that gave a ticket
-  handed : (o : IssueOutcome k tree_levels w.s shortest ticket_most marks) → Past k tree_levels root name running o.after (fed w.b (issue shortest o.outcome o.ticket o.headed)) →
+  handed : (o : IssueOutcome k tree_levels w.s shortest max_ticket marks) → Past k tree_levels root name running o.after (fed w.b (issue shortest o.outcome o.ticket o.headed)) →
       {a : ℕ × ℕ} → o.outcome ≡ Ok a → o.headed ≡ true → Shelf k root name (suc n)
   handed o p {a = a} e j = record {
     s = o.after;
@@ -87,9 +87,9 @@ module _ {k : Kit} {root name : List ℕ} {n : ℕ} (few : n < 2 ^ tree_levels) 
 
   next : Shelf k root name (suc n)
   next =
-      let g = issues k root name w.s w.b w.past shortest ticket_most marks in
+      let g = issues k root name w.s w.b w.past shortest max_ticket marks in
       let bar = bar_is in
-      elim (issue_told small (holding w.past) shortest ticket_most marks g.0.uncut g.0.call) [
+      elim (issue_told small (holding w.past) shortest max_ticket marks g.0.uncut g.0.call) [
         | barred h e q ↦ absurd (cc)
         | given x e i c q ↦ handed g.0 g.1 q.outcome q.counts
       ]
@@ -119,8 +119,8 @@ module _ {k : Kit} {root name : List ℕ} (lawful : Lawful k) (w : Shelf k root 
   unfolding g
   g_zero = (w.tickets 0 (omega arith)).2
 
-  done : (o : RedeemOutcome k tree_levels w.s g.ticket most_length (room_of (length w.s.slots))) × Past k tree_levels root name running o.after (fed w.b (redeem g.ticket o.outcome o.joined))
-  done = redeems k root name w.s w.b w.past g.ticket most_length (room_of (length w.s.slots)) (inl (sealed k root name w.s w.b w.past g g_in))
+  done : (o : RedeemOutcome k tree_levels w.s g.ticket max_record (room_of (length w.s.slots))) × Past k tree_levels root name running o.after (fed w.b (redeem g.ticket o.outcome o.joined))
+  done = redeems k root name w.s w.b w.past g.ticket max_record (room_of (length w.s.slots)) (inl (sealed k root name w.s w.b w.past g g_in))
 
   root_only : cover tree_levels w.b.spent ≡ root_node ∷ []
   root_only = ap (cover tree_levels) w.spent ∙ examples.none_spent
@@ -145,7 +145,7 @@ module _ {k : Kit} {root name : List ℕ} (lawful : Lawful k) (w : Shelf k root 
       let o = done.0 in
       let many = ap length root_only in
       after ((once_law lawful small (holding w.past)).opens refl g g_in (λ i. subst (λ (l : List ℕ). In g.number l) w.spent i) root_node (rw root_only (inl refl)) (omega arith, omega (arith, g_zero))
-      (omega (arith, w.slots)) most_length (room_of (length w.s.slots)) (omega arith) (omega arith) o.outcome o.state o.after o.joined o.call o.uncut).0
+      (omega (arith, w.slots)) max_record (room_of (length w.s.slots)) (omega arith) (omega arith) o.outcome o.state o.after o.joined o.call o.uncut).0
 
 pub narrow_server : (k : Kit) (root name : List ℕ) → Lawful k → length root ≡ value_length → length name ≡ name_length → NarrowServer k root name
 narrow_server k root name lawful lr ln =

@@ -1,12 +1,11 @@
 -- Every call has an outcome without a cut, whatever the slots hold.
 use Rattle.std.proofs.Common.{◌≡◌, ℕ, zero, suc, ◌-◌, ◌<◌, ◌≤◌, Bool, true, false, cond, not, List, [], ◌∷◌, length, take, Some, None, Option, Ok, Err, Result, sym, refl, ap, ◌∙◌, subst, inl, inr, arith, length-take-le}
-use Rattle.std.proofs.lemmas.Bool.{cases_lt}
+use Rattle.std.proofs.lemmas.Bool.{cases_lt, cases_Bool}
 use Rattle.octets.specs.Buffers.{zeros, filled}
-use Rattle.refusal.specs.declared.Refusal.TheVariants.{SlotCount, NotARecord, Spent, SealBroken, OpenedNotARecord, NoFreeSlot}
+use Rattle.refusal.specs.declared.Refusal.TheVariants.{SlotCount, Spent, SealBroken, OpenedNotARecord, NoFreeSlot}
 use Rattle.fault.specs.declared.Halt.{Halt}
 use Rattle.fault.specs.Faults.{plainly, placed}
 use Rattle.device.specs.Effects.{Slots, State}
-use Rattle.session.specs.Limits.{most_length}
 use Rattle.session.specs.Records.{is_record}
 use Rattle.layout.specs.declared.Head.{Head}
 use Rattle.layout.specs.declared.Numbers.{Numbers}
@@ -14,25 +13,26 @@ use Rattle.tree.specs.Nodes.{Covers}
 use Rattle.tree.specs.Cover.{In, Distinct}
 use Rattle.tree.specs.Values.{key_from}
 use Rattle.tree.proofs.Members.{in_right}
-use Rattle.marks.specs.Rows.{room_of, is_marked, listed, unmarked}
-use Rattle.chain.specs.Reading.{Link, File, bad_head, bad_link, uncovered, sound, slots_of, file_of}
+use Rattle.marks.specs.Rows.{room_of, is_marked, unmarked}
+use Rattle.chain.specs.Reading.{Link, slots_of, file_of, Sound}
 use Rattle.chain.specs.Listing.{find_in, marked_all}
-use Rattle.chain.specs.Sound.{SoundFile, free_in}
+use Rattle.chain.specs.Sound.{SoundFile, IsFileFault, free_in}
 use Rattle.chain.specs.declared.Found.{Found}
-use Rattle.chain.proofs.Files.{to_sound}
+use Rattle.chain.proofs.Files.{to_sound, file_fault}
 use Rattle.chain.proofs.Finds.{found_at, none_at}
 use Rattle.chain.proofs.Frees.{of_unmarked, free_are, free_count_is}
-use Rattle.rules.proofs.Counting.{finished}
-use Rattle.rules.specs.Kits.{Kit, numbers_in}
-use Rattle.rules.specs.Tickets.{number_in, ticket_most}
+use Rattle.calls.proofs.Counting.{finished}
+use Rattle.calls.specs.Kits.{Kit, numbers_in}
+use Rattle.ticket.specs.Parts.{number_in}
 use Rattle.steps.specs.Writes.{stood}
-use Rattle.rules.specs.Files.{issue_write, redeem_writes, make_writes, sweep_writes, FreeSlots, free_count}
-use Rattle.rules.specs.Calls.{Sound, entry_verdict, entered, read_as, read_by, powered, count_fits, Untouched, issuable, issue_verdict, issued_ticket, redeemable, redeem_verdict, Hit, Seals, new_links, Ready, reopen_verdict, Making, Issuing, Redeeming, Reopening}
-use Rattle.rules.specs.Pasts.{is_no_power}
+use Rattle.calls.specs.Files.{issue_write, redeem_writes, make_writes, sweep_writes, FreeSlots, free_count}
+use Rattle.calls.specs.Calls.{entry_verdict, entered, read_by, powered, count_fits, Untouched, issue_verdict, issued_ticket, redeemable, redeem_verdict, Hit, Seals, new_links, Ready, reopen_verdict, Making, Issuing, Redeeming, Reopening}
+use Rattle.calls.specs.Pasts.{is_no_power}
 use Rattle.law.specs.Law.{Uncut}
 use Rattle.law.specs.GoingOn.{MakeOutcome, ReopenOutcome, IssueOutcome, RedeemOutcome, Opens, CallsHaveOutcomes}
 use Rattle.law.proofs.Frames.{in_take}
-use Rattle.law.proofs.Links.{in_map, link_of}
+use Rattle.chain.proofs.Members.{in_map}
+use Rattle.law.proofs.Links.{link_of}
 use Rattle.law.proofs.Readings.{MayIssue, MayRedeem, issue_ok, redeem_ok}
 
 -- ---- what stops a call while the power is on
@@ -53,21 +53,19 @@ cond_same : (c : Bool) → cond c true true ≡ true
 cond_same true = refl
 cond_same false = refl
 
-clean_read : (f : File) → clean (read_as true f) ≡ true
-clean_read bad_head = refl
-clean_read (bad_link i) = refl
-clean_read (uncovered n) = refl
-clean_read (sound h xs) = refl
+-- a file's faults are not for want of power
+clean_fault : (h : Halt) → IsFileFault h.refusal → clean {A = Sound} (Err h) ≡ true
+clean_fault h (inl e) = rw e refl
+clean_fault h (inr (inl e)) = rw e refl
+clean_fault h (inr (inr e)) = rw e refl
 
-clean_issuable : (d : ℕ) (r : Result Sound Halt) → clean r ≡ true → clean (issuable d r) ≡ true
-clean_issuable d (Err h) c = c
-clean_issuable d (Ok f) c = simp (clean_cond, cond_same)
+clean_by : (r : Result Sound Halt) → ((h : Halt) → r ≡ Err h → IsFileFault h.refusal) → clean r ≡ true
+clean_by (Ok f) g = refl
+clean_by (Err h) g = clean_fault h (g h refl)
 
-clean_redeemable : (k : Kit) (ticket : List ℕ) (r : Result Sound Halt) → clean r ≡ true → clean (redeemable k ticket r) ≡ true
-clean_redeemable k ticket (Err h) c = c
-clean_redeemable k ticket (Ok f) c = simp (clean_cond, cond_same)
+clean_file : (k : Kit) (d : ℕ) (s : Slots) → clean (file_of d (numbers_in k) s) ≡ true
+clean_file k d s = clean_by (file_of d (numbers_in k) s) (file_fault d (numbers_in k) s)
 
--- the beginning of each call, and what comes after it
 clean_entry : (d : ℕ) (s : Slots) (least room marks : ℕ) → clean (entry_verdict d s least room marks) ≡ true
 clean_entry d s least room marks = simp (clean_cond, cond_same)
 
@@ -75,25 +73,16 @@ clean_entered : (v : Result (Unit {0}) Halt) (r : Result Sound Halt) → clean v
 clean_entered (Ok u) r a b = b
 clean_entered (Err h) r a b = a
 
+clean_redeemable : (k : Kit) (ticket : List ℕ) (r : Result Sound Halt) → clean r ≡ true → clean (redeemable k ticket r) ≡ true
+clean_redeemable k ticket (Err h) c = c
+clean_redeemable k ticket (Ok f) c = simp (clean_cond, cond_same)
+
 module _ (k : Kit) (d : ℕ) (s : Slots) where
   issue_clean : (plain : List ℕ) (room marks : ℕ) → clean (issue_verdict k d (powered s) plain room marks) ≡ true
-  issue_clean plain room marks =
-      let r = read_by k d (powered s) in
-      let e = clean_issuable d r (clean_read (file_of d (numbers_in k) s)) in
-      clean_entered (entry_verdict d s ticket_most room marks) (cond (is_record plain) (issuable d r) (Err (plainly NotARecord))) (clean_entry d s ticket_most room marks)
-      (simp (clean_cond, e, cond_same))
+  issue_clean plain room marks = let c = clean_file k d s in grind arith
 
   redeem_clean : (ticket : List ℕ) (room marks : ℕ) → clean (redeem_verdict k d (powered s) ticket room marks) ≡ true
-  redeem_clean ticket room marks =
-      let r = read_by k d (powered s) in
-      clean_entered (entry_verdict d s most_length room marks) (redeemable k ticket r) (clean_entry d s most_length room marks) (clean_redeemable k ticket r (clean_read (file_of d (numbers_in k) s)))
-
--- ---- what a call reads that is not stopped
-read_sound : (x : File) (f : Sound) → read_as true x ≡ Ok f → x ≡ sound f.0 f.1
-read_sound bad_head f e = absurd (cc)
-read_sound (bad_link i) f e = absurd (cc)
-read_sound (uncovered n) f e = absurd (cc)
-read_sound (sound h xs) f e = cc
+  redeem_clean ticket room marks = grind (arith, clean_entered, clean_entry, clean_redeemable, clean_file)
 
 -- ---- an issue
 module _ (k : Kit) (d : ℕ) (s : Slots) (plain : List ℕ) (room marks : ℕ) where
@@ -108,7 +97,7 @@ module _ (k : Kit) (d : ℕ) (s : Slots) (plain : List ℕ) (room marks : ℕ) w
   }
   issue_at (Ok f) e =
       let may : MayIssue k d (powered s) plain f = issue_ok plain room marks f e in
-      let file = to_sound d (numbers_in k) s f.0 f.1 (read_sound (file_of d (numbers_in k) s) f may.read) in
+      let file = to_sound d (numbers_in k) s f.0 f.1 may.read in
       let y = file.unissued f.0.issued (omega arith) may.left in
       let l = link_of f.1 y.0 y.1 in
       let T = issued_ticket k d f.0 l.0 plain in
@@ -122,14 +111,12 @@ module _ (k : Kit) (d : ℕ) (s : Slots) (plain : List ℕ) (room marks : ℕ) w
       }
 
 -- ---- free slots for a puncture: the lowest
-distinct_listed : (b : Bool) (i : ℕ) (us : List ℕ) → (In i us → ⊥) → Distinct us → Distinct (listed b i us)
-distinct_listed true i us off d = d
-distinct_listed false i us off d = (off, d)
-
 unmarked_distinct : (row : List ℕ) (n i : ℕ) → Distinct (unmarked row i n)
 unmarked_distinct row zero i = tt
 unmarked_distinct row (suc n) i =
-    distinct_listed (is_marked row i) i (unmarked row (suc i) n) (λ m. let r = of_unmarked n row (suc i) i m in omega (arith, r.0)) (unmarked_distinct row n (suc i))
+    let off : In i (unmarked row (suc i) n) → ⊥ = λ m. let r = of_unmarked n row (suc i) i m in omega (arith, r.0) in
+    let rest = unmarked_distinct row n (suc i) in
+    elim (cases_Bool (is_marked row i)) [ inl t ↦ rw t rest | inr t ↦ rw t (off, rest) ]
 
 distinct_take : (n : ℕ) (us : List ℕ) → Distinct us → Distinct (take n us)
 distinct_take zero us d = tt
@@ -146,7 +133,7 @@ module _ {d : ℕ} {numbers : Numbers} {s : Slots} {h : Head} {xs : List Link} (
   lowest_free n =
       let free = free_in 1 (length s) (marked_all (zeros (room_of (length s))) xs) in
       let told : (f : ℕ) → In f (take n free) → (1 ≤ f) × (f < length s) × (In f (slots_of xs) → ⊥) =
-      λ f m. (free_are (room_of (length s)) (length s) 1 xs f (omega arith) (λ j i. (file.slots j i).1)).0 (in_take f n free m) in
+      λ f m. (free_are (room_of (length s)) (length s) 1 xs f (omega arith)).0 (in_take f n free m) in
       record {
         above = λ f m. (told f m).0;
         within = λ f m. (told f m).1;
@@ -156,9 +143,7 @@ module _ {d : ℕ} {numbers : Numbers} {s : Slots} {h : Head} {xs : List Link} (
 
   lowest_many : (n : ℕ) → n ≤ free_count s xs → length (lowest n) ≡ n
   unfolding lowest
-  lowest_many n l =
-      let c = free_count_is (room_of (length s)) (length s) xs (omega arith) file.slots file.distinct in
-      length-take-le n (free_in 1 (length s) (marked_all (zeros (room_of (length s))) xs)) (omega arith)
+  lowest_many n l = grind (arith, free_count_is, length-take-le)
 
 -- ---- a redemption
 module _ (k : Kit) (d : ℕ) (s : Slots) (ticket : List ℕ) (room marks : ℕ) where
@@ -170,10 +155,10 @@ module _ (k : Kit) (d : ℕ) (s : Slots) (ticket : List ℕ) (room marks : ℕ) 
   untouched = record { state = refl; zero = refl }
 
   module _ (f : Sound) (verdict : redeem_verdict k d (powered s) ticket room marks ≡ Ok f) where
-    reads_file : file_of d (numbers_in k) s ≡ sound f.0 f.1
+    reads_file : file_of d (numbers_in k) s ≡ Ok f
     reads_file =
         let may : MayRedeem k d (powered s) ticket f = redeem_ok ticket room marks f verdict in
-        read_sound (file_of d (numbers_in k) s) f may.read
+        may.read
 
     -- of a ticket that is opened
     module _ {front : List Link} {x : Link} {back : List Link} (hit : Hit k d (powered s) ticket room marks f front x back) {plain : List ℕ} (seals : Seals k d ticket x plain) where
@@ -219,7 +204,7 @@ module _ (k : Kit) (d : ℕ) (s : Slots) (ticket : List ℕ) (room marks : ℕ) 
         let i : In a.link f.1 = subst (λ (ys : List Link). In a.link ys) (sym a.split) (in_right a.link a.front (a.link ∷ a.back) (inl refl)) in
         hit_at (record { verdict = verdict; chain = a.split; covers = a.covers }) (told a.link i a.covers)
 
-  redeem_at : ((h : Head) (xs : List Link) (x : Link) → file_of d (numbers_in k) s ≡ sound h xs → In x xs → Covers d x.node (number_in ticket) →
+  redeem_at : ((h : Head) (xs : List Link) (x : Link) → file_of d (numbers_in k) s ≡ Ok (h, xs) → In x xs → Covers d x.node (number_in ticket) →
       Opens k (key_from k.generator.expansion d x.node x.value (number_in ticket)) ticket) →
       (v : Result Sound Halt) → redeem_verdict k d (powered s) ticket room marks ≡ v → RedeemOutcome k d (powered s) ticket room marks
   redeem_at told (Err h) e = stays h (sym (ap clean e) ∙ redeem_clean k d s ticket room marks) (Redeeming.declined h e refl untouched refl)
@@ -232,7 +217,7 @@ module _ (k : Kit) (d : ℕ) (s : State) (marks : ℕ) where
     outcome = Err h;
     after = powered s.slots;
     call = Reopening.faulty h e q refl refl refl;
-    uncut = clean_uncut (Err h) (sym (ap clean q) ∙ clean_read (file_of d (numbers_in k) s.slots));
+    uncut = clean_uncut (Err h) (sym (ap clean q) ∙ clean_file k d s.slots);
   }
   reads_at e (Ok f) q = record {
     outcome = Ok tt;
@@ -267,9 +252,4 @@ make_at k d s root name true e = record {
 }
 
 pub outcomes : CallsHaveOutcomes
-outcomes = record {
-  make = λ k d s root name. make_at k d s root name (count_fits d s.slots) refl;
-  reopen = λ k d s marks. reopen_at k d s marks (reopen_verdict d s.slots marks) refl;
-  issue = λ k d s plain room marks. issue_at k d s plain room marks (issue_verdict k d (powered s) plain room marks) refl;
-  redeem = λ k d s ticket room marks told. redeem_at k d s ticket room marks told (redeem_verdict k d (powered s) ticket room marks) refl;
-}
+outcomes = grind (arith, make_at, reopen_at, issue_at, redeem_at)

@@ -8,15 +8,17 @@ use Rattle.tree.specs.Nodes.{tree_levels}
 use Rattle.tree.specs.Cover.{In}
 use Rattle.tree.proofs.Members.{in_cases}
 use Rattle.chain.specs.Reading.{Link}
-use Rattle.rules.specs.Kits.{Kit}
+use Rattle.calls.specs.Kits.{Kit}
 use Rattle.steps.specs.OneStep.{Write}
 use Rattle.steps.specs.Writes.{stood, CutShort}
 use Rattle.fault.specs.declared.Halt.{Halt}
-use Rattle.rules.specs.Files.{entry, last_slot, record_of, issue_write, new_writes, join_write, erase_write, redeem_writes}
-use Rattle.rules.specs.Calls.{Outcome, new_links, Issuing, Redeeming, Issuing.declined, Issuing.cut, Issuing.given, Redeeming.spent, Redeeming.shut, Redeeming.strange, Redeeming.full, Redeeming.opened}
-use Rattle.rules.specs.Tickets.{number_in}
-use Rattle.rules.specs.Books.{Book}
-use Rattle.rules.specs.Pasts.{Mode, running, Past, made, issued, redeemed, closed, reopened}
+use Rattle.chain.specs.Listing.{entry}
+use Rattle.chain.specs.Sound.{last_slot}
+use Rattle.calls.specs.Files.{record_of, issue_write, new_writes, join_write, erase_write, redeem_writes}
+use Rattle.calls.specs.Calls.{Outcome, new_links, Issuing, Redeeming, Issuing.declined, Issuing.cut, Issuing.given, Redeeming.spent, Redeeming.shut, Redeeming.strange, Redeeming.full, Redeeming.opened}
+use Rattle.ticket.specs.Parts.{number_in}
+use Rattle.calls.specs.Books.{Book}
+use Rattle.calls.specs.Pasts.{Mode, running, Past, made, issued, redeemed, closed, reopened}
 use Rattle.law.proofs.Invariant.{Linked, head_for, Inv}
 use Rattle.steps.proofs.Plans.{length_stood}
 use Rattle.law.proofs.Frames.{in_take}
@@ -93,13 +95,7 @@ last_record (x ∷ front) rest s i j l =
 module _ {k : Kit} {d : ℕ} {root name : List ℕ} {s : State} {b : Book} (v : Inv k d root name running s b)
     (front : List Link) (x : Link) (back new : List Link) (chain : v.links ≡ front ++ (x ∷ back)) where
   join_definite : Definite (join_write s.slots front (entry new (entry back 0))).bytes
-  join_definite =
-      let i = entry new (entry back 0) in
-      let l : Linked s.slots (front ++ (x ∷ back)) 0 = rw chain at v.stands.links in
-      elim (last_record front (x ∷ back) s.slots 0 0 l) [
-        | inl e ↦ rw (e, v.stands.head) (relinked_head d i (head_for k name b.issued (entry v.links 0)))
-        | inr a ↦ rw a.2 (relinked_record a.0 a.1 i)
-      ]
+  join_definite = grind (arith, Linked, last_record, relinked_head, head_for, relinked_record)
 
   redeem_definite : (w : Write) → In w (redeem_writes s.slots front x back new) → Definite w.bytes
   redeem_definite w m =

@@ -1,22 +1,23 @@
 -- What a call reads in a file that stands, what a verdict tells, and the invariant moved to other slots.
-use Rattle.std.proofs.Common.{◌≡◌, ℕ, ◌^◌, ◌<◌, ◌≤◌, Bool, true, false, cond, ◌&&◌, ltb, leb, List, ◌∷◌, ◌++◌, map, length, Ok, Err, Result, sym, refl, ap, ◌∙◌, inl}
+use Rattle.std.proofs.Common.{◌≡◌, ℕ, ◌^◌, ◌<◌, ◌≤◌, Bool, true, false, cond, List, ◌∷◌, ◌++◌, map, length, Ok, Err, Result, sym, refl, ap, ◌∙◌, inl, arith}
 use Rattle.std.proofs.lemmas.Bool.{and_parts, ltb-true, leb-true, le-leb}
-use Rattle.refusal.specs.declared.Refusal.TheVariants.{NotARecord, Exhausted, TicketLength, OtherName, NotIssued}
 use Rattle.fault.specs.declared.Halt.{Halt}
-use Rattle.fault.specs.Faults.{plainly, placed}
+use Rattle.fault.specs.Faults.{plainly}
 use Rattle.device.specs.Effects.{Slots, State}
-use Rattle.session.specs.Limits.{most_length}
+use Rattle.device.proofs.States.{same_state}
+use Rattle.session.specs.Limits.{max_record}
 use Rattle.session.specs.Records.{is_record}
 use Rattle.tree.specs.Cover.{In}
-use Rattle.chain.specs.Reading.{Link, valued_of}
+use Rattle.chain.specs.Reading.{Link, valued_of, Sound}
 use Rattle.marks.specs.Rows.{room_of}
 use Rattle.tree.specs.Values.{valued_cover}
-use Rattle.rules.specs.Kits.{Kit}
-use Rattle.rules.specs.Tickets.{name_in, number_in, ticket_least, ticket_longest, ticket_most}
+use Rattle.calls.specs.Kits.{Kit}
+use Rattle.ticket.specs.Limits.{ticket_least}
+use Rattle.ticket.specs.Parts.{number_in}
 use Rattle.tree.proofs.Members.{in_right}
-use Rattle.rules.specs.Calls.{Sound, entry_verdict, entered, read_as, read_by, powered, count_fits, same_bytes, issuable, issue_verdict, redeemable, redeem_verdict, Hit}
-use Rattle.rules.specs.Books.{Book}
-use Rattle.rules.specs.Pasts.{Mode, running, cold}
+use Rattle.calls.specs.Calls.{entry_verdict, entered, read_by, powered, count_fits, issue_verdict, redeemable, redeem_verdict, Hit}
+use Rattle.calls.specs.Books.{Book}
+use Rattle.calls.specs.Pasts.{Mode, running, cold}
 use Rattle.law.specs.Law.{RestBlank}
 use Rattle.law.proofs.Invariant.{file_for, Stands, Inv}
 use Rattle.law.proofs.ReadsBack.{reads_back}
@@ -40,55 +41,33 @@ pub record MayIssue (k : Kit) (d : ℕ) (s : State) (plain : List ℕ) (f : Soun
   pub read : read_by k d s ≡ Ok f
   pub left : f.0.issued < 2 ^ d
 
-issuable_ok : (d : ℕ) (r : Result Sound Halt) (f : Sound) → issuable d r ≡ Ok f → (r ≡ Ok f) × (f.0.issued < 2 ^ d)
-issuable_ok d (Err h) f e = absurd (cc)
-issuable_ok d (Ok g) f e =
-    let p = cond_ok (ltb g.0.issued (2 ^ d)) (Ok g) (plainly Exhausted) f e in
-    let q : f ≡ g = cc p.1 in
-    (p.1, rw q (ltb-true g.0.issued (2 ^ d) p.0))
-
 pub issue_ok : {k : Kit} {d : ℕ} {s : State} (plain : List ℕ) (room marks : ℕ) (f : Sound) → issue_verdict k d s plain room marks ≡ Ok f → MayIssue k d s plain f
-issue_ok {k = k} {d = d} {s = s} plain room marks f e =
-    let r = issuable d (read_by k d s) in
-    let c = cond_ok (is_record plain) r (plainly NotARecord) f (entered_ok (entry_verdict d s.slots ticket_most room marks) (cond (is_record plain) r (Err (plainly NotARecord))) f e) in
-    let p = issuable_ok d (read_by k d s) f c.1 in
-    record { plainly = c.0; read = p.0; left = p.1 }
+issue_ok plain room marks f e = grind arith
 
 -- a redemption that may go on: of a ticket as long as one, from the file that was read, with a number that is issued
 pub record MayRedeem (k : Kit) (d : ℕ) (s : State) (ticket : List ℕ) (f : Sound) : Type 0 where
-  pub least : ticket_least k ≤ length ticket
+  pub least : ticket_least k.sealer.overhead ≤ length ticket
   pub read : read_by k d s ≡ Ok f
   pub issued : number_in ticket < f.0.issued
 
 redeemable_ok : {k : Kit} {d : ℕ} {s : State} (ticket : List ℕ) (r : Result Sound Halt) (f : Sound) → read_by k d s ≡ r → redeemable k ticket r ≡ Ok f → MayRedeem k d s ticket f
 redeemable_ok ticket (Err h) f o e = absurd (cc)
-redeemable_ok {k = k} ticket (Ok g) f o e =
-    let n = number_in ticket in
-    let inner : Result Sound Halt = cond (ltb n g.0.issued) (Ok g) (Err (placed NotIssued n)) in
-    let a = cond_ok (leb (ticket_least k) (length ticket) && leb (length ticket) (ticket_longest k)) (cond (same_bytes (name_in ticket) g.0.name) inner (Err (plainly OtherName))) (plainly TicketLength) f e in
-    let b = cond_ok (same_bytes (name_in ticket) g.0.name) inner (plainly OtherName) f a.1 in
-    let c = cond_ok (ltb n g.0.issued) (Ok g) (placed NotIssued n) f b.1 in
-    let q : f ≡ g = cc c.1 in
-    record {
-      least = leb-true (ticket_least k) (length ticket) (and_parts (leb (ticket_least k) (length ticket)) (leb (length ticket) (ticket_longest k)) a.0).0;
-      read = o ∙ c.1;
-      issued = rw q (ltb-true n g.0.issued c.0);
-    }
+redeemable_ok {k = k} ticket (Ok g) f o e = grind (arith, cond_ok, leb-true, and_parts, ltb-true)
 
 pub redeem_ok : {k : Kit} {d : ℕ} {s : State} (ticket : List ℕ) (room marks : ℕ) (f : Sound) → redeem_verdict k d s ticket room marks ≡ Ok f → MayRedeem k d s ticket f
 redeem_ok {k = k} {d = d} {s = s} ticket room marks f e =
-    redeemable_ok ticket (read_by k d s) f refl (entered_ok (entry_verdict d s.slots most_length room marks) (redeemable k ticket (read_by k d s)) f e)
+    redeemable_ok ticket (read_by k d s) f refl (entered_ok (entry_verdict d s.slots max_record room marks) (redeemable k ticket (read_by k d s)) f e)
 
 -- ---- the file that is read
 module _ {k : Kit} {d : ℕ} {root name : List ℕ} {m : Mode} {s : State} {b : Book} (small : d ≤ 16) (v : Inv k d root name m s b) where
   pub inv_read : read_by k d (powered s.slots) ≡ Ok (file_for k name b.issued v.links)
-  inv_read = ap (read_as true) (reads_back small v)
+  inv_read = reads_back small v
 
 -- at a running server
 module _ {k : Kit} {d : ℕ} {root name : List ℕ} {s : State} {b : Book} (small : d ≤ 16) (v : Inv k d root name running s b) where
   -- its state is its slots with the power on
   pub is_powered : s ≡ powered s.slots
-  is_powered = ap (λ (o : Bool). record { slots = s.slots; power = o }) (v.power refl)
+  is_powered = same_state refl (v.power refl)
 
   pub inv_reads : read_by k d s ≡ Ok (file_for k name b.issued v.links)
   inv_reads = ap (read_by k d) is_powered ∙ inv_read small v
@@ -111,22 +90,7 @@ module _ {k : Kit} {d : ℕ} {root name : List ℕ} {s : State} {b : Book} (smal
 pub moved : {k : Kit} {d : ℕ} {root name : List ℕ} {m : Mode} {s : State} {b : Book} (v : Inv k d root name m s b)
     {m' : Mode} {t : State} {xs : List Link} → Stands k d name b.issued t.slots xs → map valued_of xs ≡ valued_cover k.generator.expansion d root b.spent →
     (m' ≡ running → t.power ≡ true) → (m' ≡ running → RestBlank t.slots xs) → Inv k d root name m' t b
-moved v {xs = xs} st c p r = record {
-  links = xs;
-  stands = st;
-  covers = c;
-  counted = v.counted;
-  below = v.below;
-  rooted = v.rooted;
-  named = v.named;
-  power = p;
-  rest = r;
-  once = v.once;
-  opened = v.opened;
-  issued = v.issued;
-  records = v.records;
-  tickets = v.tickets;
-}
+moved v {xs = xs} st c p r = grind (arith)
 
 -- of a running server whose call wrote nothing
 pub still : {k : Kit} {d : ℕ} {root name : List ℕ} {s : State} {b : Book} (m' : Mode) → Inv k d root name running s b → Inv k d root name m' s b

@@ -12,15 +12,16 @@ use Rattle.tree.proofs.Members.{in_right}
 use Rattle.tree.proofs.Places.{cover_free}
 use Rattle.tree.proofs.Flanks.{length_siblings}
 use Rattle.tree.proofs.Keys.{uncut, punctured_values}
-use Rattle.chain.specs.Reading.{Link, valued_of, slots_of}
-use Rattle.rules.specs.Kits.{Kit}
-use Rattle.rules.specs.Tickets.{number_in}
+use Rattle.chain.specs.Reading.{Link, valued_of, slots_of, Sound}
+use Rattle.calls.specs.Kits.{Kit}
+use Rattle.ticket.specs.Parts.{number_in}
 use Rattle.steps.specs.OneStep.{Write}
 use Rattle.steps.specs.Writes.{stood, CutShort}
-use Rattle.rules.specs.Files.{entry, links_in, new_writes, join_write, erase_write, redeem_writes}
-use Rattle.rules.specs.Calls.{Sound, Outcome, Untouched, Hit, new_links, Ready, Redeeming}
-use Rattle.rules.specs.Books.{Book, redeem, fed}
-use Rattle.rules.specs.Pasts.{Mode, running, cold, mode_after}
+use Rattle.chain.specs.Listing.{entry}
+use Rattle.calls.specs.Files.{links_in, new_writes, join_write, erase_write, redeem_writes}
+use Rattle.calls.specs.Calls.{Outcome, Untouched, Hit, new_links, Ready, Redeeming}
+use Rattle.calls.specs.Books.{Book, redeem, fed}
+use Rattle.calls.specs.Pasts.{Mode, running, cold, mode_after}
 use Rattle.law.specs.Law.{RestBlank}
 use Rattle.law.proofs.Invariant.{Stands, Inv}
 use Rattle.law.proofs.Readings.{moved, still, hit_may, file_is, hit_chain}

@@ -7,18 +7,18 @@ use Rattle.fault.specs.declared.Step.TheVariants.{Sweep}
 use Rattle.tree.specs.Cover.{In}
 use Rattle.tree.proofs.Members.{in_left, in_right, in_cases}
 use Rattle.chain.specs.Reading.{Link, slots_of}
-use Rattle.rules.specs.Kits.{Kit}
+use Rattle.calls.specs.Kits.{Kit}
 use Rattle.steps.specs.OneStep.{Write}
 use Rattle.steps.specs.Writes.{stood}
 use Rattle.octets.specs.Buffers.{is_blank}
-use Rattle.rules.specs.Files.{holds, sweep_from, sweep_writes}
-use Rattle.rules.specs.Calls.{Reopening, declined, stopped, faulty, cut, swept}
-use Rattle.rules.specs.Books.{Book}
-use Rattle.rules.specs.Pasts.{running, cold, mode_of}
+use Rattle.calls.specs.Files.{holds, sweep_from, sweep_writes}
+use Rattle.calls.specs.Calls.{Reopening, declined, stopped, faulty, cut, swept}
+use Rattle.calls.specs.Books.{Book}
+use Rattle.calls.specs.Pasts.{running, cold, mode_of}
 use Rattle.law.specs.Law.{RestBlank}
 use Rattle.law.proofs.Invariant.{file_for, Inv}
 use Rattle.steps.proofs.Plans.{length_stood}
-use Rattle.rules.proofs.Held.{holds_in, in_holds}
+use Rattle.calls.proofs.Held.{holds_in, in_holds}
 use Rattle.law.proofs.Frames.{in_take, kept, written, slot_after, Aside, aside_take, stands_aside}
 use Rattle.law.proofs.Readings.{inv_read, moved, cooled}
 
@@ -32,12 +32,7 @@ abbrev pub Definite : Slot → Type 0
 Definite b = (b ≡ blank) ⊎ (is_blank b ≡ false)
 
 pub whole_stood : (ws : List Write) (s : Slots) → ((w : Write) → In w ws → Definite w.bytes) → Whole s → Whole (stood s ws)
-whole_stood ws s f h i l e =
-    let n = length_stood s ws in
-    elim (slot_after s ws i (omega arith)) [
-      | kept u g ↦ g ∙ h i (omega arith) (sym (ap is_blank g) ∙ e)
-      | written w m g ↦ elim (f w m) [ inl z ↦ g ∙ z | inr z ↦ absurd (cc) ]
-    ]
+whole_stood ws s f h i l e = grind (arith, length_stood, slot_after, kept, written)
 
 -- ---- the writes of a sweep
 abbrev zeroed : ℕ → Write
@@ -71,10 +66,7 @@ swept_write (b ∷ bs) i ps w m =
 -- and there is one to each such slot that is not zero
 swept_slot : (bs : Slots) (i : ℕ) (ps : List ℕ) (j : ℕ) → j < length bs → (In (i + j) ps → ⊥) → is_blank (get_or bs j []) ≡ false → In (zeroed (i + j)) (sweep_from i bs ps)
 swept_slot [] i ps j h off e = absurd (omega arith)
-swept_slot (b ∷ bs) i ps zero h off e =
-    let z : i + 0 ≡ i = omega arith in
-    let n : holds ps i ≡ false = false_from_ne_true (holds ps i) (λ t. off (rw z (holds_in ps i t))) in
-    in_left (zeroed (i + 0)) (cond (holds ps i || is_blank b) [] (zeroed i ∷ [])) (sweep_from (suc i) bs ps) (rw (z, n, e) (inl refl))
+swept_slot (b ∷ bs) i ps zero h off e = grind (arith, false_from_ne_true, holds_in, in_left)
 swept_slot (b ∷ bs) i ps (suc j) h off e =
     let z : i + suc j ≡ suc i + j = omega arith in
     in_right (zeroed (i + suc j)) (cond (holds ps i || is_blank b) [] (zeroed i ∷ [])) (sweep_from (suc i) bs ps)

@@ -1,25 +1,27 @@
 -- A chain in which new records come into the place of one: the records, the join, and the erasure.
-use Rattle.std.proofs.Common.{◌≡◌, ℕ, ◌<◌, ◌⊎◌, List, [], ◌∷◌, ◌++◌, map, length, get_or, take, set, sym, refl, ap, ◌∙◌, subst, inl, inr, arith}
+use Rattle.std.proofs.Common.{◌≡◌, ℕ, ◌<◌, List, [], ◌∷◌, ◌++◌, map, length, get_or, take, set, sym, refl, ap, ◌∙◌, subst, inl, inr, arith}
 use Rattle.std.proofs.lemmas.Bool.{cases_eq}
 use Rattle.std.proofs.lemmas.List.{length-set, length_push, get_or-set_same, get_or-set_other}
 use Rattle.octets.proofs.Fielded.{bytes2}
-use Rattle.device.specs.Effects.{Slot, Slots, blank}
+use Rattle.device.specs.Effects.{Slots, blank}
 use Rattle.fault.specs.declared.Step.TheVariants.{NewRecord}
 use Rattle.layout.specs.Records.{encode_head, encode_node, relinked}
 use Rattle.tree.specs.Cover.{In, Distinct}
 use Rattle.tree.specs.Values.{Valued}
 use Rattle.tree.proofs.Members.{in_cases}
 use Rattle.chain.specs.Reading.{Link, valued_of, slots_of}
-use Rattle.rules.specs.Kits.{Kit}
+use Rattle.calls.specs.Kits.{Kit}
 use Rattle.steps.specs.OneStep.{Write}
 use Rattle.steps.specs.Writes.{stood}
-use Rattle.rules.specs.Files.{entry, last_slot, record_of, links_in, new_writes, join_write, erase_write, redeem_writes, FreeSlots}
+use Rattle.chain.specs.Listing.{entry}
+use Rattle.chain.specs.Sound.{last_slot}
+use Rattle.calls.specs.Files.{record_of, links_in, new_writes, join_write, erase_write, redeem_writes, FreeSlots}
 use Rattle.law.specs.Law.{RestBlank}
 use Rattle.law.proofs.Invariant.{Linked, head_for, Stands}
 use Rattle.steps.proofs.Plans.{stood_append, length_stood}
 use Rattle.law.proofs.Frames.{stood_other, count_least, count_kept, linked_set, Aside, aside_take, stands_aside}
-use Rattle.chain.proofs.Chains.{slot_left}
-use Rattle.law.proofs.Chains.{slot_right, slot_cases, apart_parts, apart_append, entry_append, linked_append, linked_parts, linked_slot}
+use Rattle.chain.proofs.Members.{slot_left, slot_right, slot_cases, last_cases}
+use Rattle.law.proofs.Chains.{apart_parts, apart_append, entry_append, linked_append, linked_parts, linked_slot}
 
 -- ---- leading on to another index
 relink_node : (i j : ℕ) (x : Link) → relinked i (record_of x j) ≡ record_of x i
@@ -78,16 +80,9 @@ last_in : (y : Link) (ys : List Link) → In (last_slot y.slot ys) (slots_of (y 
 last_in y [] = inl refl
 last_in y (z ∷ zs) = inr (last_in z zs)
 
--- the join goes to the head or to a slot of the chain's front
-last_cases : (front : List Link) → (last_slot 0 front ≡ 0) ⊎ In (last_slot 0 front) (slots_of front)
-last_cases [] = inl refl
-last_cases (y ∷ ys) = inr (last_in y ys)
-
 relink_linked : (s : Slots) (y : Link) (ys : List Link) (j i : ℕ) → Distinct (slots_of (y ∷ ys)) → Linked s (y ∷ ys) j →
     Linked (set s (last_slot y.slot ys) (relinked i (get_or s (last_slot y.slot ys) []))) (y ∷ ys) i
-relink_linked s y [] j i a l =
-    let b = relinked i (get_or s y.slot []) in
-    (l.0, rw length-set l.1, get_or-set_same s y.slot b [] l.1 ∙ ap (relinked i) l.2 ∙ relink_node i j y, tt)
+relink_linked s y [] j i a l = grind (arith, length-set, get_or-set_same, relink_node)
 relink_linked s y (z ∷ zs) j i a l =
     let p = last_slot z.slot zs in
     let b = relinked i (get_or s p []) in
@@ -129,12 +124,12 @@ join_stands {k = k} {d = d} {name = name} {issued = issued} {s = s} {front = fro
     let apart = apart_parts front (x ∷ back) st.apart in
     let ft : Linked t front i = join_linked s front x.slot i apart.front parts.0 in
     let off_new : In p (slots_of new) → ⊥ = λ m.
-    elim (last_cases front) [
+    elim (last_cases 0 front) [
       | inl e ↦ let o = z.free.above p m in omega arith
       | inr f ↦ z.free.off p m (slot_left p front (x ∷ back) f)
     ] in
     let off_back : In p (slots_of back) → ⊥ = λ m.
-    elim (last_cases front) [
+    elim (last_cases 0 front) [
       | inl e ↦ let o = linked_slot s back 0 p parts.1.3 m in omega arith
       | inr f ↦ apart.cross p f (inr m)
     ] in
@@ -179,13 +174,13 @@ module _ {k : Kit} {d : ℕ} {name : List ℕ} {issued : ℕ} {s : Slots} {front
       let p = last_slot 0 front in
       stood_other s ws p (λ w m e.
       let n : In p (slots_of new) = rw e (new_slots new (entry back 0) w m) in
-      elim (last_cases front) [
+      elim (last_cases 0 front) [
         | inl q ↦ let o : 0 < p = z.free.above p n in omega arith
         | inr f ↦ z.free.off p n (slot_left p front (x ∷ back) f)
       ])
 
   after_join : stood s (ws ++ (join ∷ [])) ≡ joined_to (stood s ws) front (entry new (entry back 0))
-  after_join = stood_append s ws (join ∷ []) ∙ ap (λ (b : Slot). set (stood s ws) (last_slot 0 front) (relinked (entry new (entry back 0)) b)) (sym join_same)
+  after_join = grind (arith, stood_append, join_same)
 
   -- once the join stands, the new records are in the place of x
   pub joins : Stands k d name issued (stood s (ws ++ (join ∷ []))) (front ++ (new ++ back))
@@ -203,7 +198,7 @@ module _ {k : Kit} {d : ℕ} {name : List ℕ} {issued : ℕ} {s : Slots} {front
       ]
 
   after_all : stood s (redeem_writes s front x back new) ≡ stood (stood s (ws ++ (join ∷ []))) (erase_write x ∷ [])
-  after_all = stood_append s ws (join ∷ erase_write x ∷ []) ∙ ap (λ (u : Slots). set u x.slot blank) (sym (stood_append s ws (join ∷ [])))
+  after_all = grind (arith, stood_append)
 
   -- and the erasure leaves them so
   pub erases : Stands k d name issued (stood s (redeem_writes s front x back new)) (front ++ (new ++ back))
@@ -220,7 +215,7 @@ module _ {k : Kit} {d : ℕ} {name : List ℕ} {issued : ℕ} {s : Slots} {front
         | inr b ↦ elim b [
           | inl q ↦
               let y : i ≡ last_slot 0 front = e ∙ ap (λ (u : Write). u.slot) q in
-              elim (last_cases front) [
+              elim (last_cases 0 front) [
                 | inl l ↦ omega arith
                 | inr f ↦ m (slot_left i front (new ++ back) (rw y f))
               ]

@@ -9,17 +9,17 @@ use Rattle.tree.specs.declared.Node.{Node}
 use Rattle.tree.specs.Nodes.{Covers}
 use Rattle.tree.specs.Cover.{In, cover}
 use Rattle.tree.specs.Values.{key_of, key_from}
-use Rattle.chain.specs.Reading.{Link}
-use Rattle.sealer.specs.Limits.{heading_length}
-use Rattle.rules.specs.Kits.{Kit}
-use Rattle.rules.specs.Tickets.{number_in}
+use Rattle.chain.specs.Reading.{Link, Sound}
+use Rattle.ticket.specs.Limits.{heading_length}
+use Rattle.calls.specs.Kits.{Kit}
+use Rattle.ticket.specs.Parts.{number_in}
 use Rattle.steps.specs.OneStep.{Write}
 use Rattle.steps.specs.Writes.{CutShort}
-use Rattle.rules.specs.Files.{free_count}
-use Rattle.rules.proofs.Counting.{by_levels}
-use Rattle.rules.specs.Calls.{Sound, Outcome, Finished, entered, issue_verdict, issued_ticket, redeem_verdict, Hit, Seals, Issuing, Redeeming}
-use Rattle.rules.specs.Books.{Book}
-use Rattle.rules.specs.Pasts.{running, is_no_power, mode_after}
+use Rattle.calls.specs.Files.{free_count}
+use Rattle.calls.proofs.Counting.{by_levels}
+use Rattle.calls.specs.Calls.{Outcome, Finished, entered, issue_verdict, issued_ticket, redeem_verdict, Hit, Seals, Issuing, Redeeming}
+use Rattle.calls.specs.Books.{Book}
+use Rattle.calls.specs.Pasts.{running, is_no_power, mode_after}
 use Rattle.law.specs.Law.{Uncut}
 use Rattle.law.proofs.Invariant.{Inv}
 use Rattle.law.proofs.Links.{link_over, link_count, link_is, key_is}

@@ -1,22 +1,19 @@
 -- The parts of a ticket are what it was put together from.
-use Rattle.std.proofs.Common.{◌≡◌, ℕ, ◌+◌, ◌^◌, ◌<◌, ◌≤◌, Bool, true, false, List, [], ◌∷◌, ◌++◌, length, take, drop, refl, ap, ◌∙◌, arith, pow_mono}
+use Rattle.std.proofs.Common.{◌≡◌, ℕ, ◌+◌, ◌^◌, ◌<◌, ◌≤◌, Bool, true, false, List, [], ◌∷◌, ◌++◌, length, take, drop, ap, ◌∙◌, arith, pow_mono}
 use Rattle.std.proofs.lemmas.List.{length-append, take_at, drop_at, take-append-le, drop-append-le}
-use Rattle.std.proofs.lemmas.Bool.{eq-eqb}
 use Rattle.octets.specs.Fields.{bytes_of, number_of}
 use Rattle.octets.proofs.Fielded.{length_bytes, number_bytes}
-use Rattle.session.specs.Limits.{most_length}
+use Rattle.session.specs.Limits.{max_record}
 use Rattle.session.proofs.Trip.{most}
 use Rattle.device.specs.Effects.{State}
 use Rattle.tree.specs.Cover.{In}
 use Rattle.tree.specs.Values.{way, follow, key_of}
-use Rattle.sealer.specs.Limits.{name_length, heading_length}
-use Rattle.sealer.specs.Headings.{heading_of}
+use Rattle.ticket.specs.Limits.{name_length, heading_length}
+use Rattle.ticket.specs.Parts.{heading_of, name_in, number_in, heading_in, sealed_in}
 use Rattle.generator.specs.Bytes.{value_length}
-use Rattle.rules.specs.Kits.{Kit, Lawful}
-use Rattle.rules.specs.Tickets.{name_in, number_in, heading_in, sealed_in}
-use Rattle.rules.specs.Calls.{same_bytes}
-use Rattle.rules.specs.Books.{Given, Book}
-use Rattle.rules.specs.Pasts.{Mode}
+use Rattle.calls.specs.Kits.{Kit, Lawful}
+use Rattle.calls.specs.Books.{Given, Book}
+use Rattle.calls.specs.Pasts.{Mode}
 use Rattle.law.proofs.Invariant.{Inv}
 
 -- a value at the end of any way is as long as one at its start
@@ -24,10 +21,6 @@ pub follow_long : (k : Kit) → Lawful k → (v : List ℕ) (bs : List Bool) →
 follow_long k w v [] q = q
 follow_long k w v (false ∷ bs) q = follow_long k w (k.generator.expansion.left v) bs (w.lengths.on_left v q)
 follow_long k w v (true ∷ bs) q = follow_long k w (k.generator.expansion.right v) bs (w.lengths.on_right v q)
-
-pub same_self : (xs : List ℕ) → same_bytes xs xs ≡ true
-same_self [] = refl
-same_self (x ∷ xs) = rw (eq-eqb x x refl, same_self xs)
 
 heading_long : (name : List ℕ) (n : ℕ) → length name ≡ name_length → length (heading_of name n) ≡ heading_length
 heading_long name n named = omega (arith, length-append name (bytes_of 4 n), length_bytes 4 n)
@@ -60,14 +53,12 @@ module _ {k : Kit} {d : ℕ} {root name : List ℕ} {m : Mode} {s : State} {b : 
   pub heading_in_long : length (heading_in g.ticket) ≡ heading_length
   heading_in_long = ap length heading_is ∙ heading_long name g.number v.named
 
-  pub state_most : length g.state ≤ most_length
+  pub state_most : length g.state ≤ max_record
   state_most = most g.state (v.records g given)
 
   -- its state is sealed in it under the key of its number
   pub seals_state : k.sealer.sealing (key_of k.generator.expansion d root (number_in g.ticket)) (heading_in g.ticket) g.state ≡ sealed_in g.ticket
-  seals_state =
-      let z : sealed_in g.ticket ≡ sealed = ap sealed_in (v.tickets g given) ∙ drop_at (heading_of name g.number) sealed heading_length (heading_long name g.number v.named) in
-      rw (number_is, heading_is, z)
+  seals_state = grind (arith, drop_at, heading_long, number_is, heading_is)
 
   pub ticket_long : Lawful k → length g.ticket ≡ heading_length + (length g.state + k.sealer.overhead)
   ticket_long w =

@@ -1,20 +1,19 @@
 -- What a call that was not cut answers, told without the slots: by the cover, the number of slots and the keys alone. What two such tales agree on.
-use Rattle.std.proofs.Common.{◌≡◌, ℕ, ◌+◌, ◌-◌, ◌^◌, ◌<◌, ◌≤◌, Bool, true, false, cond, ◌&&◌, ltb, leb, List, ◌++◌, length, Ok, Err, Result, arith}
+use Rattle.std.proofs.Common.{◌≡◌, ℕ, ◌-◌, ◌^◌, ◌<◌, ◌≤◌, Bool, true, false, cond, ◌&&◌, ltb, leb, List, ◌++◌, length, Ok, Err, Result, arith}
 use Rattle.octets.specs.Buffers.{zeros, filled}
 use Rattle.refusal.specs.declared.Refusal.TheVariants.{ShortBuffer, SlotCount, NotARecord, Exhausted, TicketLength, OtherName, NotIssued, Spent, SealBroken, OpenedNotARecord, NoFreeSlot}
 use Rattle.fault.specs.declared.Halt.{Halt}
 use Rattle.fault.specs.Faults.{plainly, placed}
-use Rattle.session.specs.Limits.{least_length, most_length}
+use Rattle.session.specs.Limits.{max_record}
 use Rattle.session.specs.Records.{is_record}
 use Rattle.tree.specs.declared.Node.{Node}
 use Rattle.tree.specs.Nodes.{Covers}
 use Rattle.tree.specs.Cover.{In}
 use Rattle.marks.specs.Rows.{room_of}
-use Rattle.sealer.specs.Limits.{heading_length}
-use Rattle.sealer.specs.Headings.{heading_of}
+use Rattle.ticket.specs.Limits.{heading_length, max_ticket, ticket_fits}
+use Rattle.ticket.specs.Parts.{heading_of, name_in, number_in, heading_in, sealed_in}
 use Rattle.sealer.specs.Outcomes.{PlainOf}
-use Rattle.rules.specs.Tickets.{name_in, number_in, heading_in, sealed_in, ticket_most}
-use Rattle.rules.specs.Calls.{Outcome, slots_least, slots_most, same_bytes}
+use Rattle.calls.specs.Calls.{Outcome, min_slots, max_slots, same_bytes}
 
 -- ---- answers
 -- the outcome, the buffer and whether the write that counts stands are these
@@ -55,12 +54,12 @@ OneKey w n key key' = (x : Node) → In x w.nodes → Covers w.depth x n → key
 -- what stops a call at its beginning
 abbrev pub entry_bar : View → ℕ → ℕ → ℕ → Barrier
 entry_bar w least room marks =
-    cond (leb least room && leb (room_of w.count) marks) (cond (leb (slots_least w.depth) w.count && leb w.count slots_most) (Ok tt) (Err (plainly SlotCount))) (Err (plainly ShortBuffer))
+    cond (leb least room && leb (room_of w.count) marks) (cond (leb (min_slots w.depth) w.count && leb w.count max_slots) (Ok tt) (Err (plainly SlotCount))) (Err (plainly ShortBuffer))
 
 -- ---- issuing
 abbrev pub issue_bar : View → List ℕ → ℕ → ℕ → Barrier
 issue_bar w plain room marks =
-    and_then (entry_bar w ticket_most room marks) (cond (is_record plain) (cond (ltb w.issued (2 ^ w.depth)) (Ok tt) (Err (plainly Exhausted))) (Err (plainly NotARecord)))
+    and_then (entry_bar w max_ticket room marks) (cond (is_record plain) (cond (ltb w.issued (2 ^ w.depth)) (Ok tt) (Err (plainly Exhausted))) (Err (plainly NotARecord)))
 
 -- the next ticket, under the key of its number
 abbrev pub next_ticket : View → List ℕ → List ℕ → List ℕ
@@ -84,8 +83,8 @@ issue_same one same (given x a i c o) (given x' a' i' c' o') =
 -- ---- redeeming
 abbrev pub redeem_bar : View → List ℕ → ℕ → ℕ → Barrier
 redeem_bar w ticket room marks =
-    and_then (entry_bar w most_length room marks)
-    (cond (leb (heading_length + least_length + w.overhead) (length ticket) && leb (length ticket) (heading_length + most_length + w.overhead))
+    and_then (entry_bar w max_record room marks)
+    (cond (ticket_fits w.overhead (length ticket))
     (cond (same_bytes (name_in ticket) w.name) (cond (ltb (number_in ticket) w.issued) (Ok tt) (Err (placed NotIssued (number_in ticket)))) (Err (plainly OtherName)))
     (Err (plainly TicketLength)))
 

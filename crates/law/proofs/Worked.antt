@@ -1,6 +1,6 @@
 -- The worked examples.
 use Rattle.std.proofs.Common.{arith}
-use Rattle.rules.specs.Kits.{Kit, kit_of, Lawful}
+use Rattle.calls.specs.Kits.{Kit, kit_of, Lawful}
 use Rattle.law.specs.Examples.{NarrowExample, AllExamples}
 use Rattle.law.proofs.Narrow.{two_passes, four_declined}
 use Rattle.law.proofs.NarrowPast.{narrow_server}

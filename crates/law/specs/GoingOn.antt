@@ -2,20 +2,20 @@
 use Rattle.std.specs.Prelude.{◌≡◌, ℕ, ◌≤◌, Bool, true, ◌⊎◌, List, length, Ok, Result}
 use Rattle.fault.specs.declared.Halt.{Halt}
 use Rattle.device.specs.Effects.{Slots, State}
-use Rattle.session.specs.Limits.{most_length}
+use Rattle.session.specs.Limits.{max_record}
 use Rattle.tree.specs.Nodes.{tree_levels, Covers}
 use Rattle.tree.specs.Cover.{In}
 use Rattle.tree.specs.Values.{key_of, key_from}
 use Rattle.marks.specs.Rows.{room_of}
-use Rattle.chain.specs.Reading.{Link, file_of, sound}
+use Rattle.chain.specs.Reading.{Link, file_of}
 use Rattle.layout.specs.declared.Head.{Head}
 use Rattle.generator.specs.Bytes.{value_length}
-use Rattle.sealer.specs.Limits.{name_length}
-use Rattle.rules.specs.Kits.{Kit, numbers_in}
-use Rattle.rules.specs.Tickets.{number_in, heading_in, sealed_in}
-use Rattle.rules.specs.Calls.{Outcome, slots_least, slots_most, powered, Making, Issuing, Redeeming, Reopening}
-use Rattle.rules.specs.Books.{Given, Book, fresh_book, issue, redeem, reopen, fed}
-use Rattle.rules.specs.Pasts.{running, cold, Past}
+use Rattle.ticket.specs.Limits.{name_length}
+use Rattle.calls.specs.Kits.{Kit, numbers_in}
+use Rattle.ticket.specs.Parts.{number_in, heading_in, sealed_in}
+use Rattle.calls.specs.Calls.{Outcome, min_slots, max_slots, powered, Making, Issuing, Redeeming, Reopening}
+use Rattle.calls.specs.Books.{Given, Book, fresh_book, issue, redeem, reopen, fed}
+use Rattle.calls.specs.Pasts.{running, cold, Past}
 use Rattle.law.specs.Law.{Uncut}
 
 -- ---- outcomes without a cut
@@ -50,7 +50,7 @@ pub record RedeemOutcome (k : Kit) (d : ℕ) (s : State) (ticket : List ℕ) (ro
 
 -- some plain is sealed in the ticket under the key; and it is told whether one is, as a sealer tells when it opens
 abbrev pub IsSealed : Kit → List ℕ → List ℕ → Type 0
-IsSealed k key ticket = (plain : List ℕ) × (length plain ≤ most_length) × (k.sealer.sealing key (heading_in ticket) plain ≡ sealed_in ticket)
+IsSealed k key ticket = (plain : List ℕ) × (length plain ≤ max_record) × (k.sealer.sealing key (heading_in ticket) plain ≡ sealed_in ticket)
 
 abbrev pub Opens : Kit → List ℕ → List ℕ → Type 0
 Opens k key ticket = IsSealed k key ticket ⊎ (IsSealed k key ticket → ⊥)
@@ -61,7 +61,7 @@ pub record CallsHaveOutcomes : Type 0 where
   pub reopen : (k : Kit) (d : ℕ) (s : State) (marks : ℕ) → ReopenOutcome k d s marks
   pub issue : (k : Kit) (d : ℕ) (s : Slots) (plain : List ℕ) (room marks : ℕ) → IssueOutcome k d (powered s) plain room marks
   pub redeem : (k : Kit) (d : ℕ) (s : Slots) (ticket : List ℕ) (room marks : ℕ) →
-      ((h : Head) (xs : List Link) (x : Link) → file_of d (numbers_in k) s ≡ sound h xs → In x xs → Covers d x.node (number_in ticket) →
+      ((h : Head) (xs : List Link) (x : Link) → file_of d (numbers_in k) s ≡ Ok (h, xs) → In x xs → Covers d x.node (number_in ticket) →
       Opens k (key_from k.generator.expansion d x.node x.value (number_in ticket)) ticket) →
       RedeemOutcome k d (powered s) ticket room marks
 
@@ -69,7 +69,7 @@ pub record CallsHaveOutcomes : Type 0 where
 pub record PastsGoOn : Type 0 where
   -- a past begins on each device of neither too few slots nor too many
   pub make : (k : Kit) (root name : List ℕ) (s : State) → length root ≡ value_length → length name ≡ name_length →
-      slots_least tree_levels ≤ length s.slots → length s.slots ≤ slots_most →
+      min_slots tree_levels ≤ length s.slots → length s.slots ≤ max_slots →
       (t : Slots) × Making k tree_levels s root name (Ok tt) (powered t) true × Past k tree_levels root name running (powered t) fresh_book
   -- a running server issues, or declines to,
   pub issue : (k : Kit) (root name : List ℕ) (s : State) (b : Book) → Past k tree_levels root name running s b → (plain : List ℕ) (room marks : ℕ) →

@@ -5,19 +5,19 @@ use Rattle.octets.specs.Buffers.{filled}
 use Rattle.refusal.specs.declared.Refusal.TheVariants.{NoPower}
 use Rattle.fault.specs.declared.Halt.{Halt}
 use Rattle.device.specs.Effects.{Slots, blank, State}
-use Rattle.session.specs.Limits.{most_length}
+use Rattle.session.specs.Limits.{max_record}
 use Rattle.layout.specs.declared.Head.{Head}
 use Rattle.tree.specs.declared.Node.{Node}
 use Rattle.tree.specs.Nodes.{tree_levels, IsNode, Covers}
 use Rattle.tree.specs.Cover.{In, Free, Distinct, cover, CoversExactly}
 use Rattle.tree.specs.Values.{value_of, key_of, valued_cover, WorkedOut}
 use Rattle.marks.specs.Rows.{room_of}
-use Rattle.chain.specs.Reading.{Link, valued_of, slots_of, file_of, sound}
-use Rattle.rules.specs.Kits.{Kit, Lawful, numbers_in}
-use Rattle.rules.specs.Tickets.{ticket_of}
-use Rattle.rules.specs.Calls.{Outcome, Issuing, Redeeming}
-use Rattle.rules.specs.Books.{Given, Book}
-use Rattle.rules.specs.Pasts.{Mode, running, Past}
+use Rattle.chain.specs.Reading.{Link, valued_of, slots_of, file_of}
+use Rattle.calls.specs.Kits.{Kit, Lawful, numbers_in}
+use Rattle.calls.specs.Tickets.{ticket_of}
+use Rattle.calls.specs.Calls.{Outcome, Issuing, Redeeming}
+use Rattle.calls.specs.Books.{Given, Book}
+use Rattle.calls.specs.Pasts.{Mode, running, Past}
 
 -- ---- free slots
 -- the slots that are neither the head's nor on the chain are zero
@@ -29,7 +29,7 @@ pub record CoverLaw (k : Kit) (d : ℕ) (root name : List ℕ) (s : Slots) (b : 
   pub head : Head
   pub links : List Link
   -- the file reads as a head and a chain,
-  pub read : file_of d (numbers_in k) s ≡ sound head links
+  pub read : file_of d (numbers_in k) s ≡ Ok (head, links)
   pub counted : head.issued ≡ b.issued
   pub named : head.name ≡ name
   -- the chain's nodes are the cover, in order, each with its value in the tree,
@@ -53,7 +53,7 @@ pub record OnceLaw (k : Kit) (d : ℕ) (root name : List ℕ) (m : Mode) (s : St
   -- enough, enough slots free, and no cut may come
   pub opens : m ≡ running → (g : Given) → In g b.given → (In g.number b.spent → ⊥) →
       (x : Node) → In x (cover d b.spent) → Covers d x g.number → d - x.depth ≤ length s.slots - 1 - length (cover d b.spent) →
-      (room marks : ℕ) → most_length ≤ room → room_of (length s.slots) ≤ marks →
+      (room marks : ℕ) → max_record ≤ room → room_of (length s.slots) ≤ marks →
       (r : Outcome) (state : List ℕ) (t : State) (joined : Bool) → Redeeming k d s g.ticket room marks r state t joined → Uncut r →
       (r ≡ Ok (length g.state, d - x.depth)) × (state ≡ filled g.state room)
 
@@ -90,10 +90,10 @@ pub record Agree (d : ℕ) (k : Kit) (root : List ℕ) (s : Slots) (b : Book) (k
 pub record AlikeLaw (k : Kit) (d : ℕ) (s : State) (k' : Kit) (s' : State) : Type 0 where
   pub head : Head
   pub links : List Link
-  pub read : file_of d (numbers_in k) s.slots ≡ sound head links
+  pub read : file_of d (numbers_in k) s.slots ≡ Ok (head, links)
   pub head' : Head
   pub links' : List Link
-  pub read' : file_of d (numbers_in k') s'.slots ≡ sound head' links'
+  pub read' : file_of d (numbers_in k') s'.slots ≡ Ok (head', links')
   pub chains : map valued_of links ≡ map valued_of links'
   pub rest : RestBlank s.slots links
   pub rest' : RestBlank s'.slots links'
@@ -105,7 +105,7 @@ pub record Law : Type 0 where
   pub power_is_on : (k : Kit) (root name : List ℕ) (s : State) (b : Book) → Past k tree_levels root name running s b → s.power ≡ true
   -- and its free slots are zero
   pub free_slots_are_zero : (k : Kit) (root name : List ℕ) (s : State) (b : Book) → Past k tree_levels root name running s b →
-      (h : Head) (xs : List Link) → file_of tree_levels (numbers_in k) s.slots ≡ sound h xs → RestBlank s.slots xs
+      (h : Head) (xs : List Link) → file_of tree_levels (numbers_in k) s.slots ≡ Ok (h, xs) → RestBlank s.slots xs
   pub cover : (k : Kit) (root name : List ℕ) (m : Mode) (s : State) (b : Book) → Past k tree_levels root name m s b →
       CoverLaw k tree_levels root name s.slots b
   pub once : (k : Kit) (root name : List ℕ) (m : Mode) (s : State) (b : Book) → Lawful k → Past k tree_levels root name m s b →

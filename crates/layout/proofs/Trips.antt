@@ -1,10 +1,11 @@
 -- The round trips of the two records.
-use Rattle.std.proofs.Common.{◌≡◌, ℕ, ◌+◌, ◌^◌, ◌<◌, ◌≤◌, true, eqb, leb, List, ◌∷◌, ◌++◌, length, get_or, take, drop, Some, sym, refl, ap, ◌∙◌, subst, ⊎_elim, arith}
-use Rattle.std.proofs.lemmas.List.{length-drop, length-take, length-take-le, take_at, drop_at, take_all, take-append-drop, drop-drop, drop_more, get_or-take, get_or-drop, get_or_past}
+use Rattle.std.proofs.Common.{◌≡◌, ℕ, ◌+◌, ◌^◌, ◌<◌, ◌≤◌, true, eqb, List, ◌∷◌, ◌++◌, length, get_or, take, drop, Some, sym, refl, ap, ◌∙◌, subst, arith}
+use Rattle.std.proofs.lemmas.List.{length-drop, length-take-le, take_at, drop_at, take_all, drop-drop, drop_more, get_or-drop}
 use Rattle.std.proofs.lemmas.Option.{cond_some}
-use Rattle.std.proofs.lemmas.Bool.{cases_lt, and_parts, eq-eqb, le-leb, eqb-true, leb-true}
+use Rattle.std.proofs.lemmas.Bool.{and_parts, eq-eqb, le-leb, eqb-true, leb-true}
 use Rattle.octets.specs.Buffers.{zeros, is_blank}
 use Rattle.octets.specs.Fields.{bytes_of, number_of}
+use Rattle.octets.proofs.Parts.{part_small, part_rest}
 use Rattle.octets.proofs.Blank.{zeros_from_blank}
 use Rattle.octets.proofs.Fielded.{length_bytes, number_bytes, bytes_number, number2, number4}
 use Rattle.layout.specs.declared.Head.{Head}
@@ -12,23 +13,12 @@ use Rattle.layout.specs.declared.NodeFields.{NodeFields}
 use Rattle.layout.specs.Records.{part, is_head, head_fields, encode_head, head_of, is_record, node_fields, encode_node, node_of, value_of}
 use Rattle.layout.specs.Trips.{IsSlot, HeadFits, HeadTrip, NodeFits, NodeTrip}
 
--- a part of 64 bytes is bytes
-part_small : (at n : ℕ) (bs : List ℕ) → ((k : ℕ) → get_or bs k 0 < 256) → (k : ℕ) → get_or (part at n bs) k 0 < 256
-part_small at n bs small k = ⊎_elim
-    (λ (lt : k < n). subst (λ (x : ℕ). x < 256) (sym (get_or-take n (drop at bs) k 0 lt ∙ get_or-drop at bs k 0)) (small (at + k)))
-    (λ (ge : n ≤ k). subst (λ (x : ℕ). x < 256) (sym (get_or_past (part at n bs) k 0 (omega (arith, length-take n (drop at bs))))) (omega arith))
-    (cases_lt k n)
-
 part_long : (at n : ℕ) (bs : List ℕ) → length bs ≡ 64 → at + n ≤ 64 → length (part at n bs) ≡ n
 part_long at n bs e h = length-take-le n (drop at bs) (omega (arith, length-drop at bs))
 
 -- a field's bytes are those of its number
 field : (at n : ℕ) (bs : List ℕ) → IsSlot bs → at + n ≤ 64 → bytes_of n (number_of (part at n bs)) ≡ part at n bs
 field at n bs s h = bytes_number n (part at n bs) (part_long at n bs s.long h) (part_small at n bs s.small)
-
--- one part after another
-cut : (at n : ℕ) (bs : List ℕ) → part at n bs ++ drop (at + n) bs ≡ drop at bs
-cut at n bs = ap (λ (x : List ℕ). part at n bs ++ x) (sym (drop-drop n at bs)) ∙ take-append-drop n (drop at bs)
 
 blank_part : (at n : ℕ) (bs : List ℕ) → length bs ≡ 64 → at + n ≤ 64 → is_blank (part at n bs) ≡ true → part at n bs ≡ zeros n
 blank_part at n bs e h z = zeros_from_blank (part at n bs) z ∙ ap zeros (part_long at n bs e h)
@@ -44,17 +34,13 @@ head_back d h f =
     let d6 : drop 6 x ≡ h.name ++ r = sym (drop-drop 4 2 x) ∙ ap (drop 4) d2 ∙ drop_at b (h.name ++ r) 4 (length_bytes 4 h.issued) in
     let d22 : drop 22 x ≡ r = sym (drop-drop 16 6 x) ∙ ap (drop 16) d6 ∙ drop_at h.name r 16 f.name in
     let d24 : drop 24 x ≡ zeros 36 = sym (drop-drop 2 22 x) ∙ ap (drop 2) d22 in
-    let one : number_of (take 2 x) ≡ h.first =
-    ap number_of (take_at a (b ++ (h.name ++ r)) 2 (length_bytes 2 h.first)) ∙ number_bytes 2 h.first f.first in
-    let two : number_of (take 4 (drop 2 x)) ≡ h.issued =
-    ap (λ (y : List ℕ). number_of (take 4 y)) d2 ∙ ap number_of (take_at b (h.name ++ r) 4 (length_bytes 4 h.issued)) ∙ number_bytes 4 h.issued f.word in
+    let one : number_of (take 2 x) ≡ h.first = rw (take_at a (b ++ (h.name ++ r)) 2 (length_bytes 2 h.first)) (number_bytes 2 h.first f.first) in
+    let two : number_of (take 4 (drop 2 x)) ≡ h.issued = rw (d2, take_at b (h.name ++ r) 4 (length_bytes 4 h.issued)) (number_bytes 4 h.issued f.word) in
     let three : take 16 (drop 6 x) ≡ h.name = ap (take 16) d6 ∙ take_at h.name r 16 f.name in
     let four : get_or x 22 0 ≡ h.numbers.generator = sym (get_or-drop 22 x 0 0) ∙ ap (λ (y : List ℕ). get_or y 0 0) d22 in
     let five : get_or x 23 0 ≡ h.numbers.sealer = sym (get_or-drop 22 x 1 0) ∙ ap (λ (y : List ℕ). get_or y 1 0) d22 in
     let blank : is_blank (take 36 (drop 24 x)) ≡ true = ap (λ (y : List ℕ). is_blank (take 36 y)) d24 in
-    let same : eqb d d ≡ true = eq-eqb d d refl in
-    let few : leb h.issued (2 ^ d) ≡ true = le-leb h.issued (2 ^ d) f.issued in
-    rw (same, blank, two, few, one, three, four, five)
+    rw (eq-eqb d d refl, blank, two, le-leb h.issued (2 ^ d) f.issued, one, three, four, five)
 
 -- two bytes and four bytes write numbers of 16 and 32 bits
 small2 : (w : List ℕ) → length w ≡ 2 → ((k : ℕ) → get_or w k 0 < 256) → number_of w < 2 ^ 16
@@ -75,16 +61,10 @@ head_whole d bs s t =
     let long : length bs ≡ 64 = s.long in
     let z2 : part 2 2 bs ≡ zeros 2 = blank_part 2 2 bs long (omega arith) u.0 in
     let z28 : drop 28 bs ≡ zeros 36 = sym (take_all 36 (drop 28 bs) (omega (arith, length-drop 28 bs))) ∙ blank_part 28 36 bs long (omega arith) v.0 in
-    let c26 : drop 26 bs ≡ get_or bs 26 0 ∷ get_or bs 27 0 ∷ zeros 36 =
-    drop_more bs 26 0 (omega arith) ∙ ap (λ (y : List ℕ). get_or bs 26 0 ∷ y) (drop_more bs 27 0 (omega arith) ∙ ap (λ (y : List ℕ). get_or bs 27 0 ∷ y) z28) in
-    let w2 : 0 ∷ 0 ∷ drop 4 bs ≡ drop 2 bs = ap (λ (y : List ℕ). y ++ drop 4 bs) (sym z2) ∙ cut 2 2 bs in
-    let top : 1 ∷ d ∷ 0 ∷ 0 ∷ drop 4 bs ≡ bs =
-    ap (λ (y : List ℕ). 1 ∷ d ∷ y) w2
-    ∙ ap (λ (k : ℕ). 1 ∷ k ∷ drop 2 bs) (sym b1)
-    ∙ ap (λ (y : List ℕ). 1 ∷ y) (sym (drop_more bs 1 0 (omega arith)))
-    ∙ ap (λ (k : ℕ). k ∷ drop 1 bs) (sym b0)
-    ∙ sym (drop_more bs 0 0 (omega arith)) in (
-      rw (field 4 2 bs s (omega arith), field 6 4 bs s (omega arith), ← c26, cut 10 16 bs, cut 6 4 bs, cut 4 2 bs) top,
+    let c26 : drop 26 bs ≡ get_or bs 26 0 ∷ get_or bs 27 0 ∷ zeros 36 = grind (arith, drop_more bs 26 0, drop_more bs 27 0, z28) in
+    let w2 : 0 ∷ 0 ∷ drop 4 bs ≡ drop 2 bs = ap (λ (y : List ℕ). y ++ drop 4 bs) (sym z2) ∙ part_rest 2 2 bs in
+    let top : 1 ∷ d ∷ 0 ∷ 0 ∷ drop 4 bs ≡ bs = grind (arith, w2, b0, b1, drop_more bs 0 0, drop_more bs 1 0) in (
+      rw (field 4 2 bs s (omega arith), field 6 4 bs s (omega arith), ← c26, part_rest 10 16 bs, part_rest 6 4 bs, part_rest 4 2 bs) top,
       record {
         first = small2 (part 4 2 bs) (part_long 4 2 bs long (omega arith)) (part_small 4 2 bs s.small);
         issued = leb-true _ _ v.1;
@@ -97,8 +77,7 @@ head_forth : (d : ℕ) (bs : List ℕ) (h : Head) → IsSlot bs → head_of d bs
 unfolding head_of
 head_forth d bs h s e =
     let p = cond_some (is_head d bs) (head_fields bs) h e in
-    let P : Head → Type 0 = λ g. (encode_head d g ≡ bs) × HeadFits d g in
-    subst P p.1 (head_whole d bs s p.0)
+    subst (λ (g : Head). (encode_head d g ≡ bs) × HeadFits d g) p.1 (head_whole d bs s p.0)
 
 pub head_trip : HeadTrip
 head_trip = record { back = head_back; forth = head_forth }
@@ -106,9 +85,7 @@ head_trip = record { back = head_back; forth = head_forth }
 node_back : (d : ℕ) (x : NodeFields) (v : List ℕ) → NodeFits d x → node_of d (encode_node x v) ≡ Some x
 unfolding node_of encode_node bytes_of
 node_back d x v f =
-    let one : number_of (bytes_of 2 x.first) ≡ x.first = number_bytes 2 x.first f.first in
-    let two : number_of (bytes_of 2 x.next) ≡ x.next = number_bytes 2 x.next f.next in
-    rw (one, two, f.node)
+    rw (number_bytes 2 x.first f.first, number_bytes 2 x.next f.next, f.node)
 
 node_value : (x : NodeFields) (v : List ℕ) → value_of (encode_node x v) ≡ v
 unfolding value_of encode_node bytes_of
@@ -122,12 +99,9 @@ node_whole d bs s t =
     let b0 : get_or bs 0 0 ≡ 2 = eqb-true _ _ p.0 in
     let long : length bs ≡ 64 = s.long in
     let z6 : part 6 26 bs ≡ zeros 26 = blank_part 6 26 bs long (omega arith) q.0 in
-    let c6 : zeros 26 ++ drop 32 bs ≡ drop 6 bs = ap (λ (y : List ℕ). y ++ drop 32 bs) (sym z6) ∙ cut 6 26 bs in
-    let top : 2 ∷ get_or bs 1 0 ∷ drop 2 bs ≡ bs =
-    ap (λ (y : List ℕ). 2 ∷ y) (sym (drop_more bs 1 0 (omega arith)))
-    ∙ ap (λ (k : ℕ). k ∷ drop 1 bs) (sym b0)
-    ∙ sym (drop_more bs 0 0 (omega arith)) in (
-      rw (field 2 2 bs s (omega arith), field 4 2 bs s (omega arith), c6, cut 4 2 bs, cut 2 2 bs) top,
+    let c6 : zeros 26 ++ drop 32 bs ≡ drop 6 bs = ap (λ (y : List ℕ). y ++ drop 32 bs) (sym z6) ∙ part_rest 6 26 bs in
+    let top : 2 ∷ get_or bs 1 0 ∷ drop 2 bs ≡ bs = grind (arith, b0, drop_more bs 0 0, drop_more bs 1 0) in (
+      rw (field 2 2 bs s (omega arith), field 4 2 bs s (omega arith), c6, part_rest 4 2 bs, part_rest 2 2 bs) top,
       record {
         node = q.1;
         first = small2 (part 2 2 bs) (part_long 2 2 bs long (omega arith)) (part_small 2 2 bs s.small);
@@ -139,8 +113,7 @@ node_forth : (d : ℕ) (bs : List ℕ) (x : NodeFields) → IsSlot bs → node_o
 unfolding node_of
 node_forth d bs x s e =
     let p = cond_some (is_record d bs) (node_fields bs) x e in
-    let P : NodeFields → Type 0 = λ y. (encode_node y (value_of bs) ≡ bs) × NodeFits d y in
-    subst P p.1 (node_whole d bs s p.0)
+    subst (λ (y : NodeFields). (encode_node y (value_of bs) ≡ bs) × NodeFits d y) p.1 (node_whole d bs s p.0)
 
 pub node_trip : NodeTrip
 node_trip = record { back = node_back; value = node_value; forth = node_forth }

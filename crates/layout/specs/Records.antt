@@ -1,10 +1,11 @@
 -- The head and the node records of a key file, byte by byte, for a tree of d levels.
-use Rattle.std.specs.Prelude.{ℕ, ◌-◌, ◌%◌, ◌^◌, Bool, cond, ◌&&◌, List, ◌∷◌, ◌++◌, take, drop, Some, None, Option, ◌==◌, nat_le, nat_lt, slice_index}
+use Rattle.std.specs.Prelude.{ℕ, ◌^◌, Bool, cond, ◌&&◌, List, ◌∷◌, ◌++◌, take, drop, Some, None, Option, ◌==◌, nat_le, slice_index}
 use Rattle.octets.specs.Buffers.{zeros, is_blank}
 use Rattle.octets.specs.Fields.{bytes_of, number_of}
 use Rattle.layout.specs.declared.Head.{Head}
 use Rattle.layout.specs.declared.NodeFields.{NodeFields}
 use Rattle.tree.specs.declared.Node.{Node}
+use Rattle.tree.specs.Nodes.{is_node}
 
 -- the n bytes from a place on
 abbrev pub part : ℕ → ℕ → List ℕ → List ℕ
@@ -47,10 +48,6 @@ node_fields bs = record { depth = slice_index bs 1; first = number_of (part 2 2 
 -- the value that a node record holds
 unfoldable pub value_of : List ℕ → List ℕ
 value_of bs = drop 32 bs
-
--- a tree of d levels has a node at depth e that begins at p: p is a number of the tree, and a multiple of the width
-abbrev pub is_node : ℕ → ℕ → ℕ → Bool
-is_node d e p = nat_le e d && (nat_lt p (2 ^ d) && p % 2 ^ (d - e) == 0)
 
 -- laid out as a node of the tree
 abbrev pub is_record : ℕ → List ℕ → Bool

@@ -2,7 +2,8 @@
 use Rattle.std.specs.Prelude.{◌≡◌, ℕ, ◌^◌, ◌<◌, ◌≤◌, true, List, length, Some, slice_index}
 use Rattle.layout.specs.declared.Head.{Head}
 use Rattle.layout.specs.declared.NodeFields.{NodeFields}
-use Rattle.layout.specs.Records.{is_node, encode_head, head_of, encode_node, node_of, value_of}
+use Rattle.tree.specs.Nodes.{is_node}
+use Rattle.layout.specs.Records.{encode_head, head_of, encode_node, node_of, value_of}
 
 -- the bytes of a slot
 pub record IsSlot (bs : List ℕ) : Type 0 where

@@ -4,15 +4,15 @@
 //! material and stays where it lies, in the last 32 bytes of its slot.
 #![tactic(auto)]
 
-ghost use Rattle.std.specs.Prelude.{◌≡◌, ℕ, ◌%◌, ◌^◌, ◌<◌, ◌==◌, nat_le};
+ghost use Rattle.std.specs.Prelude.{◌≡◌, ℕ, ◌^◌, ◌<◌};
 ghost use Rattle.tree.specs.Nodes.{node_at};
-ghost use Rattle.layout.specs.Records.{is_node, encode_head, is_head, head_of, fields_of, encode_node, is_record, node_of, value_of, relinked, recounted};
+ghost use Rattle.layout.specs.Records.{encode_head, is_head, head_of, fields_of, encode_node, is_record, node_of, value_of, relinked, recounted};
 ghost use Rattle.layout.specs.Trips.{HeadTrip, NodeTrip};
 
 use octets::{get, is_blank, put};
-use tree::Node;
+use tree::{Node, has_node, has_numbers};
 
-// A slot has 64 bytes here, and a key name 16, by no constant of crates device and sealer: a layout stands on no device and no sealer.
+// A slot has 64 bytes here, and a key name 16, by no constant of crates device and ticket: a layout stands on no device and no ticket.
 
 // The first byte of each record. Bytes and no enum: a slot may begin with any other, and then it holds no record.
 const HEAD: u8 = 1;
@@ -144,16 +144,8 @@ fn is_head(levels: u8, slot: &[u8; 64]) -> bool
         && has_numbers(levels, get(slot, ISSUED_AT))
 }
 
-// Whether a tree of `levels` levels has so many numbers.
-fn has_numbers(levels: u8, count: u32) -> bool
-    ensures { result ≡ nat_le count (2 ^ levels) }
-{
-    // a count has 32 bits: no need to tell apart greater powers of two
-    u64::from(count) <= 1 << levels.min(32)
-}
-
 /// Lays a node out in a slot.
-#[tactic(auto, using(crate::proofs::Trips::node_trip, crate::proofs::Laid::nothing_after), unfolding(crate::specs::Records::encode_node, octets::specs::Fields::bytes_of))]
+#[tactic(auto, using(crate::proofs::Trips::node_trip), unfolding(crate::specs::Records::encode_node, octets::specs::Fields::bytes_of))]
 pub fn encode_node(node: &NodeFields, value: &[u8; 32], slot: &mut [u8; 64])
     ensures is { slot.new ≡ encode_node node.now value.now }
     ensures trip { NodeTrip }
@@ -185,25 +177,7 @@ fn is_record(levels: u8, slot: &[u8; 64]) -> bool
 {
     slot[0] == NODE
         && is_blank(&slot[LINK_AT + 2..VALUE_AT])
-        && is_node(levels, slot[1], get(slot, FIRST_AT))
-}
-
-// Whether a tree of `levels` levels has a node of this depth that begins at this number.
-#[tactic(auto, using(crate::proofs::Powers::next_within))]
-fn is_node(levels: u8, depth: u8, first: u16) -> bool
-    ensures { result ≡ is_node levels depth first }
-{
-    depth <= levels
-        && has_numbers(levels, u32::from(first) + 1)
-        && is_multiple(first, levels - depth)
-}
-
-// Whether a number is a multiple of 2 to this power.
-fn is_multiple(number: u16, power: u8) -> bool
-    ensures { result ≡ (number % 2 ^ power == 0) }
-{
-    // a number has 16 bits: no need to tell apart greater powers of two
-    u32::from(number) % (1 << power.min(16)) == 0
+        && has_node(levels, slot[1], u32::from(get::<2, u16>(slot, FIRST_AT)))
 }
 
 /// Copies the value out of a node's slot.

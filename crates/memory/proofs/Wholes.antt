@@ -1,9 +1,9 @@
 -- A write as appointed is whole.
 use Rattle.std.proofs.Common.{◌≡◌, ℕ, zero, suc, ◌/◌, ◌⊎◌, Option, length, take, Ok, refl, inl, inr, div-mul-le_self}
 use Rattle.device.specs.Effects.{Slot, Writing, slot_size}
-use Rattle.medium.specs.Rows.{Row, slots_of, state_by, placed}
-use Rattle.medium.specs.Appointed.{answer_of, Counting, standing_in}
-use Rattle.medium.proofs.Meanings.{wholes}
+use Rattle.row.specs.Rows.{Row, slots_of, state_by, placed}
+use Rattle.row.specs.Appointed.{answer_of, Counting, standing_in}
+use Rattle.row.proofs.Meanings.{wholes}
 use Rattle.memory.specs.Whole.{wholly}
 
 either : (m : ℕ) → (wholly m ≡ 0) ⊎ (wholly m ≡ slot_size)

@@ -3,13 +3,13 @@
 
 ghost use Rattle.std.specs.Prelude.{◌≡◌};
 ghost use Rattle.device.specs.Effects.{Writing, Restarting};
-ghost use Rattle.medium.specs.Rows.{Row, slots_of, state_by, fresh};
-ghost use Rattle.medium.specs.Appointed.{appointed, Struck, Restarted};
-ghost use Rattle.medium.proofs.Rows.{sized_row};
+ghost use Rattle.row.specs.Rows.{Row, slots_of, state_by, fresh};
+ghost use Rattle.row.specs.Appointed.{appointed, Struck, Restarted};
+ghost use Rattle.row.proofs.Rows.{sized_row};
 ghost use Rattle.memory.specs.Whole.{wholly};
 
 use device::{DeviceFault, ReadSlots, SLOT_SIZE, WriteSlots};
-use medium::{Bottom, Cut, answer};
+use row::{Bottom, Cut, answer};
 use std::marker::Model;
 
 /// Slot i is the bytes from 64 i on; bytes past the last whole slot are unused.
@@ -48,12 +48,12 @@ impl<'a> ReadSlots for Memory<'a> {
 
     ghost sized = { λ s k h. sized_row s.row k h };
 
-    #[tactic(auto, using(medium::proofs::Rows::many))]
+    #[tactic(auto, using(row::proofs::Rows::many))]
     fn count(&self) -> usize {
         self.base.size() / SLOT_SIZE
     }
 
-    #[tactic(auto, using(medium::proofs::Rows::slots))]
+    #[tactic(auto, using(row::proofs::Rows::slots))]
     fn read(&self, index: usize, out: &mut [u8; SLOT_SIZE]) -> Result<(), DeviceFault> {
         self.base.read(self.count(), index, out)
     }
@@ -67,7 +67,7 @@ fn kept(standing: usize) -> usize
 }
 
 impl<'a> WriteSlots for Memory<'a> {
-    #[tactic(auto, using(medium::proofs::Rows::many, crate::proofs::Wholes::writes))]
+    #[tactic(auto, using(row::proofs::Rows::many, crate::proofs::Wholes::writes))]
     fn write(&mut self, index: usize, bytes: &[u8; SLOT_SIZE]) -> Result<(), DeviceFault>
         ensures meaning { Writing (state_by slots_of self.old) index bytes.now result (state_by slots_of self.new) }
         ensures exact { Struck wholly slots_of self.old index bytes.now result self.new }

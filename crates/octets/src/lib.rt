@@ -82,6 +82,7 @@ pub fn get<const N: usize, T: Field<N>>(b: &[u8], at: usize) -> T
 }
 
 /// A number comes back from its bytes, and bytes come back from their number, at every width.
+#[tactic(auto, using(crate::proofs::Fielded::fields))]
 pub fn fields_stand()
     ensures { FieldLaws }
 {}
@@ -108,7 +109,7 @@ fn differing(a: &[u8], b: &[u8]) -> u8
 }
 
 /// Whether two rows of bytes are equal. Rows of one length are read to their end, whatever they hold.
-#[tactic(auto, using(crate::proofs::Compared::differing_zero, crate::proofs::Compared::differing_same))]
+#[tactic(auto, using(crate::proofs::Compared::both_zero, crate::proofs::Compared::differing_self))]
 pub fn same_bytes(a: &[u8], b: &[u8]) -> bool
     ensures { Decides result (a.now ≡ b.now) }
 {

@@ -6,7 +6,7 @@ mod words;
 use beds::Medium;
 use device::{ReadSlots, SLOT_SIZE, TearSlots, WriteSlots};
 use journal::Journal;
-use medium::Cut;
+use row::Cut;
 use samples::{JOURNAL_ROW, Show, all_are, journal_row};
 use words::{NEW, Said, Slot};
 

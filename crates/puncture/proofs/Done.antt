@@ -7,40 +7,32 @@ use Rattle.fault.specs.declared.Halt.{Halt}
 use Rattle.fault.specs.declared.Step.TheVariants.{Join, Erasure}
 use Rattle.layout.specs.Records.{relinked}
 use Rattle.tree.specs.declared.Node.{Node}
-use Rattle.tree.specs.Nodes.{root_node, most_levels, Above}
+use Rattle.tree.specs.Nodes.{root_node, max_levels, Above}
 use Rattle.tree.specs.Cover.{In}
 use Rattle.tree.specs.Puncture.{siblings_from}
 use Rattle.tree.specs.Values.{Valued, valued, value_from, sibling_values}
 use Rattle.tree.proofs.Flanks.{length_siblings}
 use Rattle.chain.specs.declared.Found.{Found}
-use Rattle.chain.specs.Sound.{SoundFile}
-use Rattle.chain.proofs.Chains.{slot_left}
+use Rattle.chain.specs.Sound.{SoundFile, last_slot}
+use Rattle.chain.proofs.Members.{slot_left, last_cases}
 use Rattle.chain.proofs.Files.{to_sound}
 use Rattle.chain.proofs.Frees.{free_are, free_count_is}
-use Rattle.chain.specs.Reading.{Link, slots_of}
-use Rattle.chain.specs.Listing.{first_slot, marked_all}
-use Rattle.rules.specs.Kits.{Kit, numbers_in}
+use Rattle.chain.specs.Reading.{Link, slots_of, Sound}
+use Rattle.chain.specs.Listing.{marked_all, entry}
+use Rattle.calls.specs.Kits.{Kit, numbers_in}
 use Rattle.generator.specs.Bytes.{value_length}
 use Rattle.steps.specs.OneStep.{write_of, Stepped}
 use Rattle.steps.specs.Writes.{stood, Ran}
-use Rattle.rules.specs.Files.{entry, last_slot, links_in, record_of, new_writes, join_write, erase_write, redeem_writes, FreeSlots}
-use Rattle.rules.specs.Calls.{Sound, new_links}
+use Rattle.calls.specs.Files.{links_in, record_of, new_writes, join_write, erase_write, redeem_writes, FreeSlots}
+use Rattle.calls.specs.Calls.{new_links}
 use Rattle.steps.proofs.Plans.{stood_append, done_slots, done_power, done_long, ran_next, ran_cut, ran_as}
-use Rattle.puncture.specs.Laying.{open_slots, backward, links_for, Able, Laid}
-use Rattle.puncture.specs.Puncturing.{Given, Puncturing}
+use Rattle.puncture.specs.Laying.{open_slots, backward, links_for, Able, Laid, Recorded}
+use Rattle.puncture.specs.Puncturing.{Given, Puncturing, Joins, Punctures}
 use Rattle.puncture.proofs.Open.{rises, backward_apart, backward_in, length_backward}
 use Rattle.chain.proofs.Standing.{Standing, standing}
 use Rattle.puncture.proofs.Values.{value_at_is, links_are}
 
 -- ---- small facts on links
-last_slot_cases : (i : ℕ) (xs : List Link) → (last_slot i xs ≡ i) ⊎ In (last_slot i xs) (slots_of xs)
-last_slot_cases i [] = inl refl
-last_slot_cases i (x ∷ xs) = inr (last_slot_cases x.slot xs)
-
-first_entry : (xs : List Link) → first_slot xs ≡ entry xs 0
-first_entry [] = refl
-first_entry (x ∷ xs) = refl
-
 links_within : (fs : List ℕ) (vs : List Valued) (j : ℕ) → In j (slots_of (links_in fs vs)) → In j fs
 links_within [] vs j m = absurd m
 links_within (f ∷ fs) [] j m = absurd m
@@ -99,7 +91,7 @@ module _ {k : Kit} {d : ℕ} {s : State} {count : ℕ} {found : Found} {n : ℕ}
   node_same = ap (λ (z : Found). z.node) g.finds
 
   -- there is a way down
-  pub way_down : d ≤ most_levels → Above d found.node n
+  pub way_down : d ≤ max_levels → Above d found.node n
   way_down m = rw node_same (record { few = m; is_node = stands.node; covers = g.covers })
 
   slots_within : (j : ℕ) → In j (slots_of f.1) → (0 < j) × (j < count)
@@ -120,7 +112,7 @@ module _ {k : Kit} {d : ℕ} {s : State} {count : ℕ} {found : Found} {n : ℕ}
   -- a slot that is taken is free
   is_free : (j : ℕ) → In j taken → (1 ≤ j) × (j < count) × (In j (slots_of f.1) → ⊥)
   is_free j i =
-      (free_are (length marks) count 1 f.1 j g.wide (λ b r. (slots_within b r).1)).0
+      (free_are (length marks) count 1 f.1 j g.wide).0
       (rw g.marked at (backward_in (open_slots marks count) m j enough i))
 
   free_slots : FreeSlots s.slots f.1 taken
@@ -149,13 +141,13 @@ module _ {k : Kit} {d : ℕ} {s : State} {count : ℕ} {found : Found} {n : ℕ}
         let h : Node → List ℕ = value_from k.generator.expansion d x.node x.value in
         let sib = siblings_from d x.node n in
         let v : (j : ℕ) → j < length sib → get_or row j [] ≡ h (get_or sib j root_node) = λ j l.
-        rw g.kept (value_at_is h sib (replicate (most_levels - length (sibling_values k.generator.expansion d x.node x.value n)) (zeros value_length)) j l) in
+        rw g.kept (value_at_is h sib (replicate (max_levels - length (sibling_values k.generator.expansion d x.node x.value n)) (zeros value_length)) j l) in
         ap (λ (l : List Node). links_for (open_slots marks count) l row) nodes_are
         ∙ links_are (open_slots marks count) sib row h v
         ∙ ap (λ (j : ℕ). links_in (backward (open_slots marks count) j) (valued h sib)) siblings_many
 
     next_is : found.next ≡ entry back 0
-    next_is = ap (λ (z : Found). z.next) g.finds ∙ first_entry back
+    next_is = ap (λ (z : Found). z.next) g.finds
 
     before_is : found.before ≡ last_slot 0 front
     before_is = ap (λ (z : Found). z.before) g.finds
@@ -164,7 +156,7 @@ module _ {k : Kit} {d : ℕ} {s : State} {count : ℕ} {found : Found} {n : ℕ}
     slot_is = ap (λ (z : Found). z.slot) g.finds
 
     last_in : (last_slot 0 front ≡ 0) ⊎ In (last_slot 0 front) (slots_of f.1)
-    last_in = elim (last_slot_cases 0 front) [
+    last_in = elim (last_cases 0 front) [
       | inl e ↦ inl e
       | inr i ↦ inr (rw g.chain (slot_left (last_slot 0 front) front (x ∷ back) i))
     ]
@@ -207,3 +199,32 @@ module _ {k : Kit} {d : ℕ} {s : State} {count : ℕ} {found : Found} {n : ℕ}
         Stepped u (write_of found.slot blank Erasure) r v → Puncturing k d s.slots f front x back n r v
     punctured {t = t} {i = i} l w z =
         by_writes (plan_done s.slots front x back (new_links k d x n taken) last_within stands.within last_off (laid_new (Ok i) t l) (rw before_is at w) (rw slot_is at z))
+
+-- ---- from its steps
+module _ (d : ℕ) (s : State) (count : ℕ) (found : Found) (n : ℕ) (row : List (List ℕ)) (marks : List ℕ) where
+  pub no_siblings : (r : Result (Unit {0}) Halt) → d ≤ max_levels → (Above d found.node n → ⊥) → Punctures d s count found n row marks r s
+  unfolding Punctures
+  no_siblings r m none k f front x back v = absurd (none (way_down v m))
+
+  pub records_cut : (nodes : List Node) (h : Halt) (r : Result (Unit {0}) Halt) (t : State) → nodes ≡ siblings_from d found.node n → Recorded s count nodes row marks found.next (Err h) t → r ≡ Err h →
+      Punctures d s count found n row marks r t
+  unfolding Punctures Recorded
+  records_cut nodes h r t is a e k f front x back v = rw e (cut_records v is (a (is_able v is)))
+
+  pub join_cut : (nodes : List Node) (i : ℕ) (h : Halt) (r : Result (Unit {0}) Halt) (t u : State) → nodes ≡ siblings_from d found.node n → Recorded s count nodes row marks found.next (Ok i) t →
+      Joins t found.before i (Err h) u → r ≡ Err h → Punctures d s count found n row marks r u
+  unfolding Punctures Recorded Joins
+  join_cut nodes i h r t u is a b e k f front x back v =
+      let l = a (is_able v is) in
+      let m = may_join v is l in
+      rw e (cut_join v is l (b m.0 m.1))
+
+  pub all_done : (nodes : List Node) (i : ℕ) (r : Result (Unit {0}) Halt) (t u w : State) → nodes ≡ siblings_from d found.node n → Recorded s count nodes row marks found.next (Ok i) t →
+      Joins t found.before i (Ok tt) u → Stepped u (write_of found.slot blank Erasure) r w → Punctures d s count found n row marks r w
+  unfolding Punctures Recorded Joins
+  all_done nodes i r t u w is a b z k f front x back v =
+      let l = a (is_able v is) in
+      let m = may_join v is l in
+      punctured v is l (b m.0 m.1) z
+
+pub ruleset puncturing = (no_siblings, records_cut, join_cut, all_done)

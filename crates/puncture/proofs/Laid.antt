@@ -1,7 +1,7 @@
 -- Laying out a record, and the records that are written so far.
-use Rattle.std.proofs.Common.{◌≡◌, ℕ, zero, suc, ◌+◌, ◌-◌, ◌<◌, ◌≤◌, true, List, [], ◌∷◌, ◌++◌, length, get_or, take, drop, Some, None, Option, Ok, Err, Result, sym, refl, ap, ◌∙◌, append_assoc, append-nil, arith}
+use Rattle.std.proofs.Common.{◌≡◌, ℕ, zero, suc, ◌+◌, ◌-◌, ◌<◌, ◌≤◌, true, List, [], ◌∷◌, ◌++◌, length, get_or, take, drop, Some, None, Option, Ok, Err, Result, sym, refl, ap, ◌∙◌, ◌^◌, inl, inr, append_assoc, append-nil, arith}
 use Rattle.std.proofs.Math.Seq.{get_or-append_seam}
-use Rattle.std.proofs.lemmas.List.{length_push, take-append-drop, length-take-le, length-append}
+use Rattle.std.proofs.lemmas.List.{length_push, take-append-drop, length-take-le, length-append, get_or_append_left}
 use Rattle.device.specs.Effects.{Slot, Slots, State}
 use Rattle.fault.specs.declared.Halt.{Halt}
 use Rattle.fault.specs.declared.Step.TheVariants.{NewRecord}
@@ -11,9 +11,10 @@ use Rattle.tree.specs.Nodes.{root_node}
 use Rattle.marks.specs.Rows.{unmarked, first_of}
 use Rattle.steps.specs.OneStep.{Write, write_of, Stepped}
 use Rattle.steps.specs.Writes.{Ran}
-use Rattle.rules.specs.Files.{entry, new_writes}
+use Rattle.chain.specs.Listing.{entry}
+use Rattle.calls.specs.Files.{new_writes}
 use Rattle.steps.proofs.Plans.{ran_none, ran_next, ran_cut, ran_as}
-use Rattle.puncture.specs.Laying.{open_slots, last_links, links_for, Able, Laid}
+use Rattle.puncture.specs.Laying.{open_slots, last_links, links_for, Able, Laid, Recording, Recorded}
 use Rattle.puncture.proofs.Open.{First, first_is, none_left, left_over}
 
 -- the nodes ns and the values vs are still to be written, and those behind them are
@@ -133,3 +134,57 @@ module _ {s : State} {nodes : List Node} {row : List (List ℕ)} {marks : List �
           leads = rw one_less (sym here.0);
           ran = went d;
         }
+
+-- the last of some nodes
+pub last_one : (ns : List Node) (x : Node) → (length (ns ++ x ∷ []) ≡ length ns + 1) × (get_or (ns ++ x ∷ []) (length ns) root_node ≡ x)
+last_one ns x = (omega (arith, length_push ns x), get_or-append_seam ns x [] root_node)
+
+-- ---- on the way through the nodes: those of ns, with the values vs, are still to be written, and the others are
+unfoldable pub Underway : State → ℕ → List Node → List (List ℕ) → List ℕ → ℕ → List Node → List (List ℕ) → ℕ → ℕ → State → Type 0
+Underway s count nodes row marks last ns vs from next t =
+    Ahead nodes row ns vs × (Able s count (length nodes) marks → Going s.slots nodes row marks count last (length ns) from next t)
+
+module _ (s : State) (count : ℕ) (nodes : List Node) (row : List (List ℕ)) (marks : List ℕ) (last : ℕ) where
+  pub under_none : (ns : List Node) (vs : List (List ℕ)) → ns ≡ nodes → vs ≡ take (length nodes) row → length nodes ≤ length row → Underway s count nodes row marks last ns vs 1 last s
+  unfolding Underway
+  under_none ns vs e f l = (all_ahead e f l, λ a. begun (ap length e) a.power)
+
+  module _ (ns : List Node) (vs : List (List ℕ)) (from next : ℕ) (t : State) (u : Underway s count nodes row marks last ns vs from next t)
+      (ns' : List Node) (vs' : List (List ℕ)) (x : Node) (y : List ℕ) (p : length ns - length vs ≡ 0 → ns ≡ ns' ++ x ∷ []) (q : length vs - length ns ≡ 0 → vs ≡ vs' ++ y ∷ []) where
+    unfolded : Ahead nodes row ns vs × (Able s count (length nodes) marks → Going s.slots nodes row marks count last (length ns) from next t)
+    unfolding Underway
+    unfolded = u
+
+    pub under_more : (f : ℕ) (v : State) → Recording t count x y marks from next (Ok f) v → Underway s count nodes row marks last ns' vs' (f + 1) f v
+    unfolding Underway Recording
+    under_more f v d = let w = drawn unfolded.0 p q in (w.onward, λ a. again (unfolded.1 a) w a refl d.0 d.1)
+
+    pub under_cut : (h : Halt) (r : Result ℕ Halt) (v : State) → Recording t count x y marks from next (Err h) v → r ≡ Err h → Recorded s count nodes row marks last r v
+    unfolding Recorded Recording
+    under_cut h r v d e a =
+        let w = drawn unfolded.0 p q in
+        rw e (elim d [
+          | inl k ↦ rw k.1 (never_full (unfolded.1 a) w a refl k.0)
+          | inr k ↦ fails (unfolded.1 a) w a refl k.1 k.2
+        ])
+
+  pub under_small : (ns : List Node) (vs : List (List ℕ)) (from next : ℕ) (t : State) (j : ℕ) → Underway s count nodes row marks last ns vs from next t →
+      ((j : ℕ) → j < length nodes → (get_or nodes j root_node).first < 2 ^ 16) → j < length ns → (get_or ns j root_node).first < 2 ^ 16
+  unfolding Underway
+  under_small ns vs from next t j u f l =
+      let e : length nodes ≡ length ns + length u.0.behind = ap length u.0.nodes_are ∙ length-append ns u.0.behind in
+      let q : get_or nodes j root_node ≡ get_or ns j root_node = ap (λ (z : List Node). get_or z j root_node) u.0.nodes_are ∙ get_or_append_left ns u.0.behind root_node j l in
+      omega (arith, f j (omega (arith, e)), ap (λ (z : Node). z.first) q)
+
+  pub under_many : (ns : List Node) (vs : List (List ℕ)) (from next : ℕ) (t : State) → Underway s count nodes row marks last ns vs from next t → length vs ≡ length ns
+  unfolding Underway
+  under_many ns vs from next t u = u.0.many
+
+  pub under_all : (ns : List Node) (vs : List (List ℕ)) (from next : ℕ) (t : State) → length ns ≡ 0 → Underway s count nodes row marks last ns vs from next t → Recorded s count nodes row marks last (Ok next) t
+  unfolding Underway Recorded
+  under_all ns vs from next t e u a =
+      let g = u.1 a in
+      let z : length nodes - length ns ≡ length nodes = omega (arith, e) in
+      (rw z at g.leads, rw z at g.ran)
+
+pub ruleset underway = (under_none, under_more, under_cut, under_many, under_all, under_small, last_one)

@@ -1,5 +1,5 @@
 -- Slots without a mark: the first of them, and how they rise.
-use Rattle.std.proofs.Common.{◌≡◌, ℕ, zero, suc, ◌+◌, ◌-◌, ◌<◌, ◌≤◌, Bool, true, false, List, [], ◌∷◌, length, get_or, drop, Some, None, refl, ap, inl, inr, ⊎_elim, arith}
+use Rattle.std.proofs.Common.{◌≡◌, ℕ, zero, suc, ◌+◌, ◌-◌, ◌<◌, ◌≤◌, Bool, true, false, List, [], ◌∷◌, length, get_or, drop, Some, None, Option, refl, ap, ◌⊎◌, inl, inr, ⊎_elim, arith}
 use Rattle.std.proofs.lemmas.Bool.{cases_Bool}
 use Rattle.tree.specs.Cover.{In, Distinct}
 use Rattle.marks.specs.Rows.{is_marked, listed, unmarked, first_of}
@@ -31,8 +31,12 @@ first_is row i (suc n) f e = ⊎_elim
     (λ (t : is_marked row i ≡ false). first_here row i n f (rw t at e) t)
     (cases_Bool (is_marked row i))
 
-pub first_small : (row : List ℕ) (i end f : ℕ) → first_of (unmarked row i (end - i)) ≡ Some f → f < end
-first_small row i end f e = let r = first_is row i (end - i) f e in omega (arith, r.low, r.high)
+some_below : (o : Option ℕ) (e : ℕ) → ((f : ℕ) → o ≡ Some f → f < e) → (o ≡ None) ⊎ ((f : ℕ) × (o ≡ Some f) × (f < e))
+some_below None e h = inl refl
+some_below (Some f) e h = inr (f, refl, h f refl)
+
+pub first_below : (row : List ℕ) (i n : ℕ) → (first_of (unmarked row i n) ≡ None) ⊎ ((f : ℕ) × (first_of (unmarked row i n) ≡ Some f) × (f < i + n))
+first_below row i n = some_below (first_of (unmarked row i n)) (i + n) (λ f e. (first_is row i n f e).high)
 
 first_none : (us : List ℕ) → first_of us ≡ None → us ≡ []
 first_none [] e = refl

@@ -1,14 +1,15 @@
 -- The values in a row, and the links that are made from them.
-use Rattle.std.proofs.Common.{◌≡◌, ℕ, zero, suc, ◌+◌, ◌-◌, ◌^◌, ◌<◌, ◌≤◌, List, [], ◌∷◌, ◌++◌, length, get_or, map, drop, Some, refl, ap, ◌∙◌, arith}
+use Rattle.std.proofs.Common.{◌≡◌, ℕ, zero, suc, ◌+◌, ◌-◌, ◌^◌, ◌<◌, ◌≤◌, List, [], ◌∷◌, ◌++◌, length, get_or, map, drop, refl, ap, ◌∙◌, arith}
 use Rattle.std.proofs.lemmas.List.{drop_more, get_or_append_left, get_or-map, length-map}
 use Rattle.tree.specs.declared.Node.{Node}
-use Rattle.tree.specs.Nodes.{most_levels, root_node, Above}
-use Rattle.tree.specs.Puncture.{siblings_from, Listed}
+use Rattle.tree.specs.Nodes.{max_levels, root_node, Above}
+use Rattle.tree.specs.Puncture.{siblings_from}
 use Rattle.tree.specs.Values.{valued}
+use Rattle.tree.proofs.Flanks.{length_siblings}
 use Rattle.tree.proofs.Members.{range}
 use Rattle.tree.proofs.Places.{under_of_node}
 use Rattle.tree.proofs.Keys.{sibling_lies}
-use Rattle.rules.specs.Files.{links_in}
+use Rattle.calls.specs.Files.{links_in}
 use Rattle.puncture.specs.Laying.{backward, last_links, links_for}
 use Rattle.puncture.proofs.Open.{in_at}
 
@@ -36,14 +37,14 @@ links_are us nodes row f v =
     rw z at (last_are us nodes row f v (length nodes) (omega arith))
 
 -- ---- the first numbers of siblings fit a record
-pub siblings_small : (d n : ℕ) (x : Node) → Above d x n → (j : ℕ) → j < length (siblings_from d x n) → (get_or (siblings_from d x n) j root_node).first < 2 ^ d
-siblings_small d n x a j l =
+pub siblings_small : (d n : ℕ) (x : Node) (j : ℕ) → Above d x n → j < length (siblings_from d x n) → (get_or (siblings_from d x n) j root_node).first < 2 ^ d
+siblings_small d n x j a l =
     let y = get_or (siblings_from d x n) j root_node in
     let s = sibling_lies d n x y a.is_node.shallow a.covers (in_at (siblings_from d x n) root_node j l) in
     let r = range d 0 d 0 x (omega arith) (under_of_node d x a.is_node) in
     omega (arith, s.within.1, r.high)
 
--- ---- what listing the siblings leaves to be written
-pub listed_fit : (d n : ℕ) (x : Node) (ys : List Node) → Listed d x n (Some ys) → (length ys ≤ most_levels) × ((j : ℕ) → j < length ys → (get_or ys j root_node).first < 2 ^ d)
-listed_fit d n x ys l =
-    (omega (arith, l.1, l.0.few), rw l.2 (siblings_small d n x l.0))
+pub siblings_few : (d n : ℕ) (x : Node) → Above d x n → length (siblings_from d x n) ≤ max_levels
+siblings_few d n x a = omega (arith, length_siblings x.depth (d - x.depth) x.first n, a.few)
+
+pub ruleset fitting = (siblings_few, siblings_small)

@@ -1,13 +1,17 @@
 -- The new records of a puncture: which slots they take, and what writing them answers.
-use Rattle.std.specs.Prelude.{◌≡◌, ℕ, zero, suc, ◌-◌, ◌≤◌, true, List, [], ◌∷◌, length, Ok, Err, Result, slice_index, slice_index_or}
+use Rattle.std.specs.Prelude.{◌≡◌, ℕ, zero, suc, ◌-◌, ◌≤◌, true, ◌⊎◌, List, [], ◌∷◌, length, Some, None, Ok, Err, Result, slice_index, slice_index_or}
 use Rattle.device.specs.Effects.{Slots, State}
 use Rattle.fault.specs.declared.Halt.{Halt}
+use Rattle.fault.specs.declared.Step.TheVariants.{NewRecord}
+use Rattle.layout.specs.Records.{encode_node, fields_of}
 use Rattle.tree.specs.declared.Node.{Node}
 use Rattle.tree.specs.Nodes.{root_node}
-use Rattle.marks.specs.Rows.{unmarked}
+use Rattle.marks.specs.Rows.{unmarked, first_of}
 use Rattle.chain.specs.Reading.{Link}
+use Rattle.steps.specs.OneStep.{write_of, Stepped}
 use Rattle.steps.specs.Writes.{Ran}
-use Rattle.rules.specs.Files.{entry, new_writes}
+use Rattle.chain.specs.Listing.{entry}
+use Rattle.calls.specs.Files.{new_writes}
 
 -- the slots without a mark, beside the head's, in increasing order
 abbrev pub open_slots : List ℕ → ℕ → List ℕ
@@ -37,3 +41,16 @@ pub record Able (s : State) (count m : ℕ) (marks : List ℕ) : Type 0 where
 abbrev pub Laid : Slots → List Link → ℕ → Result ℕ Halt → State → Type 0
 Laid s links last (Ok i) t = (i ≡ entry links last) × Ran s (new_writes links last) (Ok tt) t
 Laid s links last (Err h) t = Ran s (new_writes links last) (Err h) t
+
+-- ---- words that the check does not open, so it finds lemmas about the records by them
+-- one record, in the first slot without a mark from `from` on; or there is none, or the power fails
+unfoldable pub Recording : State → ℕ → Node → List ℕ → List ℕ → ℕ → ℕ → Result ℕ Halt → State → Type 0
+Recording s count node value marks from next (Ok f) t =
+    (first_of (unmarked marks from (count - from)) ≡ Some f) × Stepped s (write_of f (encode_node (fields_of node next) value) NewRecord) (Ok tt) t
+Recording s count node value marks from next (Err h) t =
+    ((first_of (unmarked marks from (count - from)) ≡ None) × (t ≡ s))
+    ⊎ ((f : ℕ) × (first_of (unmarked marks from (count - from)) ≡ Some f) × Stepped s (write_of f (encode_node (fields_of node next) value) NewRecord) (Err h) t)
+
+-- the links are written, where the device is able to take them
+unfoldable pub Recorded : State → ℕ → List Node → List (List ℕ) → List ℕ → ℕ → Result ℕ Halt → State → Type 0
+Recorded s count nodes row marks last r t = Able s count (length nodes) marks → Laid s.slots (links_for (open_slots marks count) nodes row) last r t

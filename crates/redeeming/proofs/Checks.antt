@@ -1,32 +1,26 @@
 -- The checks of a redemption, as its verdict has them.
-use Rattle.std.proofs.Common.{◌≡◌, ℕ, ◌<◌, ◌≤◌, Bool, true, cond, List, [], ◌∷◌, length, Some, None, Ok, Err, Option, refl, ap, ◌∙◌, arith}
-use Rattle.std.proofs.lemmas.Bool.{both_ways, cases_Bool, and_parts, and_from, eqb-true, eq-eqb}
+use Rattle.std.proofs.Common.{◌≡◌, ℕ, ◌<◌, ◌≤◌, Bool, true, false, cond, List, length, Some, None, Ok, Err, Option, ap, ◌∙◌, arith}
+use Rattle.std.proofs.lemmas.Bool.{cases_Bool}
 use Rattle.device.specs.Effects.{State}
 use Rattle.fault.specs.declared.Halt.{Halt}
 use Rattle.marks.specs.Rows.{room_of}
 use Rattle.chain.specs.declared.Survey.{Survey}
-use Rattle.chain.specs.Reading.{Link, file_of}
+use Rattle.chain.specs.Reading.{Link, Sound}
 use Rattle.chain.specs.Listing.{find_in}
 use Rattle.chain.specs.Outcome.{reading_of, asked_of, answer_of, marks_of}
-use Rattle.rules.specs.Kits.{Kit, numbers_in}
-use Rattle.rules.specs.Tickets.{number_in}
-use Rattle.rules.specs.Calls.{Sound, read_by, same_bytes, redeemable}
-use Rattle.rules.proofs.Readings.{Told, read_err, read_ok, told_read}
+use Rattle.calls.specs.Kits.{Kit, numbers_in}
+use Rattle.ticket.specs.Parts.{number_in}
+use Rattle.calls.specs.Calls.{read_by, same_bytes, redeemable}
+use Rattle.calls.proofs.Readings.{Told, read_err, read_ok}
+use Rattle.calls.proofs.Same.{bytes_same, same_self}
 use Rattle.redeeming.specs.Steps.{Known}
 
 -- ---- bytes
-bytes_same : (xs ys : List ℕ) → same_bytes xs ys ≡ true → xs ≡ ys
-bytes_same [] [] e = refl
-bytes_same [] (y ∷ ys) e = absurd (cc)
-bytes_same (x ∷ xs) [] e = absurd (cc)
-bytes_same (x ∷ xs) (y ∷ ys) e = grind (arith, and_parts, eqb-true, bytes_same xs ys)
+pub same : (b : Bool) (xs ys : List ℕ) → b ≡ true → (b ≡ true → xs ≡ ys) → same_bytes xs ys ≡ true
+same b xs ys e f = rw (f e) (same_self ys)
 
-same_self : (xs : List ℕ) → same_bytes xs xs ≡ true
-same_self [] = refl
-same_self (x ∷ xs) = grind (arith, and_from, eq-eqb, same_self xs)
-
-pub decides_same : (b : Bool) (xs ys : List ℕ) → (b ≡ true → xs ≡ ys) → (xs ≡ ys → b ≡ true) → b ≡ same_bytes xs ys
-decides_same b xs ys f g = grind (arith, both_ways, bytes_same, same_self, cases_Bool)
+pub other : (b : Bool) (xs ys : List ℕ) → b ≡ false → (xs ≡ ys → b ≡ true) → same_bytes xs ys ≡ false
+other b xs ys e g = grind (arith, bytes_same, cases_Bool)
 
 -- ---- which tickets there are
 pub is_of : (b : Bool) (o : Option (List ℕ)) (t u : List ℕ) → o ≡ cond b (Some t) None → o ≡ Some u → (b ≡ true) × (u ≡ t)
@@ -38,11 +32,11 @@ module _ (k : Kit) (d : ℕ) (s : State) (ticket : List ℕ) {m : ℕ} (wide : r
   survey_err e = ap (redeemable k ticket) (read_err d (numbers_in k) s wide some n e)
 
   module _ {v : Survey} {marks : List ℕ} (e : Ok v ≡ answer_of d n (reading_of d (numbers_in k) m s)) (q : marks ≡ marks_of m (reading_of d (numbers_in k) m s)) where
-    told : Told d n m s.power (file_of d (numbers_in k) s.slots) v marks
+    told : Told d (numbers_in k) s n m v marks
     told = read_ok d (numbers_in k) s wide some n e q
 
     by_is : redeemable k ticket (read_by k d s) ≡ redeemable k ticket (Ok (v.head, told.links))
-    by_is = ap (redeemable k ticket) (told_read told)
+    by_is = ap (redeemable k ticket) told.read
 
     pub check_err : {h : Halt} → ((xs : List Link) → redeemable k ticket (Ok (v.head, xs)) ≡ Err h) → redeemable k ticket (read_by k d s) ≡ Err h
     check_err c = by_is ∙ c told.links

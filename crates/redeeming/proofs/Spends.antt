@@ -1,36 +1,49 @@
 -- A redemption, from its steps.
-use Rattle.std.proofs.Common.{◌≡◌, ℕ, ◌-◌, ◌<◌, ◌≤◌, Bool, true, false, ltb, List, [], ◌∷◌, length, Some, None, Ok, Err, Result, sym, refl, ap, ◌∙◌, inl, inr, arith}
+use Rattle.std.proofs.Common.{◌≡◌, ℕ, ◌-◌, ◌<◌, ◌≤◌, Bool, true, false, ltb, List, length, Some, None, Ok, Err, Result, sym, refl, ap, ◌∙◌, inl, inr, arith}
 use Rattle.octets.specs.Buffers.{zeros}
 use Rattle.refusal.specs.declared.Refusal.TheVariants.{Spent, NoFreeSlot}
 use Rattle.device.specs.Effects.{State}
 use Rattle.fault.specs.declared.Halt.{Halt}
 use Rattle.fault.specs.Faults.{placed}
-use Rattle.session.specs.Limits.{most_length}
+use Rattle.session.specs.Limits.{max_record}
 use Rattle.sealer.specs.Outcomes.{PlainOf}
-use Rattle.tree.specs.Nodes.{most_levels}
-use Rattle.tree.specs.Cover.{In}
+use Rattle.tree.specs.Nodes.{max_levels}
+use Rattle.marks.specs.Rows.{room_of}
 use Rattle.chain.specs.declared.Found.{Found}
 use Rattle.chain.specs.declared.Survey.{Survey}
-use Rattle.chain.specs.Reading.{Link}
-use Rattle.chain.specs.Sound.{nodes_of, last_slot as last_of}
+use Rattle.chain.specs.Reading.{Link, file_of, Sound}
+use Rattle.chain.specs.Listing.{between, marked_all}
+use Rattle.chain.specs.Sound.{last_slot}
 use Rattle.chain.proofs.Files.{to_sound}
+use Rattle.chain.proofs.Members.{in_map}
 use Rattle.chain.proofs.Finds.{found_at, none_at}
-use Rattle.rules.specs.Kits.{Kit, numbers_in}
-use Rattle.rules.specs.Tickets.{number_in, heading_in, sealed_in}
+use Rattle.calls.specs.Kits.{Kit, numbers_in}
+use Rattle.ticket.specs.Parts.{number_in, heading_in, sealed_in}
 use Rattle.steps.specs.Writes.{through, failed}
-use Rattle.rules.specs.Files.{last_slot}
-use Rattle.rules.specs.Calls.{Sound, entry_verdict, read_by, redeemable, redeem_verdict, Seals, Ready, Untouched, Redeeming, declined, spent, shut, strange, full, cut, opened}
-use Rattle.rules.proofs.Readings.{Entered, entered_by}
+use Rattle.calls.specs.Calls.{entry_verdict, read_by, redeemable, redeem_verdict, Seals, Ready, Hit, Untouched, Redeeming, declined, spent, shut, strange, full, cut, opened}
+use Rattle.calls.proofs.Readings.{Entered, entered_by}
 use Rattle.puncture.specs.Puncturing.{Given, Puncturing}
 use Rattle.chain.proofs.Standing.{standing}
-use Rattle.redeeming.specs.Steps.{Known, Met, Derived, Unsealing, Spotted}
+use Rattle.redeeming.specs.Steps.{Known, Met, Derived, Unsealing}
+
+-- a redemption that has found its record: x, between front and back in the file f, with the marks on the chain's slots
+pub record Spotted (k : Kit) (d : ℕ) (s : State) (ticket : List ℕ) (room count many : ℕ) (found : Found) (marks : List ℕ) (f : Sound) (front : List Link) (x : Link) (back : List Link) : Type 0 where
+  pub hit : Hit k d s ticket room (length marks) f front x back
+  pub power : s.power ≡ true
+  pub size : length s.slots ≡ count
+  pub large : max_record ≤ room
+  pub wide : room_of count ≤ length marks
+  pub reads : file_of d (numbers_in k) s.slots ≡ Ok f
+  pub finds : found ≡ between (last_slot 0 front) x back
+  pub records : many ≡ length f.1
+  pub marked : marks ≡ marked_all (zeros (length marks)) f.1
 
 still : {s : State} {room : ℕ} → Untouched s room (zeros room) s
 still = record { state = refl; zero = refl }
 
 module _ {k : Kit} {d : ℕ} {s : State} {ticket : List ℕ} {room count many : ℕ} {found : Found} {marks : List ℕ} {f : Sound} {front : List Link} {x : Link} {back : List Link}
     (z : Spotted k d s ticket room count many found marks f front x back) where
-  pub met : d ≤ most_levels → Met d s found (number_in ticket) x
+  pub met : d ≤ max_levels → Met d s found (number_in ticket) x
   met few =
       let t = standing front x back (to_sound d (numbers_in k) s.slots f.0 f.1 z.reads) z.hit.chain in
       record {
@@ -94,51 +107,45 @@ module _ {k : Kit} {d : ℕ} {s : State} {ticket : List ℕ} {room count many : 
         ]
 
 -- ---- before the chain is searched
-in_nodes : (x : Link) (xs : List Link) → In x xs → In x.node (nodes_of xs)
-in_nodes x [] i = absurd i
-in_nodes x (y ∷ ys) i = grind (arith, in_nodes x ys)
-
-last_same : (i : ℕ) (xs : List Link) → last_of i xs ≡ last_slot i xs
-last_same i [] = refl
-last_same i (x ∷ xs) = last_same x.slot xs
-
 module _ (k : Kit) (d : ℕ) (s : State) (ticket : List ℕ) (room m : ℕ) where
-  pub not_entered : {h : Halt} → entry_verdict d s.slots most_length room m ≡ Err h → (joined : Bool) × Redeeming k d s ticket room m (Err h) (zeros room) s joined
+  pub not_entered : {h : Halt} → entry_verdict d s.slots max_record room m ≡ Err h → (joined : Bool) × Redeeming k d s ticket room m (Err h) (zeros room) s joined
   not_entered {h = h} e = (false, declined h (rw e) refl still refl)
 
   -- what the verdict is, once buffers and slots will do
-  module _ (entry : entry_verdict d s.slots most_length room m ≡ Ok tt) where
+  module _ (entry : entry_verdict d s.slots max_record room m ≡ Ok tt) where
     verdict_is : redeem_verdict k d s ticket room m ≡ redeemable k ticket (read_by k d s)
     verdict_is = rw entry
 
     pub not_surveyed : {h : Halt} → redeemable k ticket (read_by k d s) ≡ Err h → (joined : Bool) × Redeeming k d s ticket room m (Err h) (zeros room) s joined
     not_surveyed {h = h} v = (false, declined h (verdict_is ∙ v) refl still refl)
 
-    module _ {v : Survey} {marks : List ℕ} {f : Sound} (c : Known k d s ticket m v marks f) where
-      pub is_spent : v.found ≡ None → (joined : Bool) × Redeeming k d s ticket room m (Err (placed Spent (number_in ticket))) (zeros room) s joined
-      is_spent e = (
-        false,
-        spent f (verdict_is ∙ c.passed)
-            (λ x i o. none_at d (number_in ticket) 0 f.1 (sym c.finds ∙ e) (x.node, in_nodes x f.1 i, o)) refl still refl,
-      )
+-- ---- once the file is read
+module _ {k : Kit} {d : ℕ} {s : State} {ticket : List ℕ} {room : ℕ} {v : Survey} {marks : List ℕ} {f : Sound}
+    (entry : entry_verdict d s.slots max_record room (length marks) ≡ Ok tt) (c : Known k d s ticket (length marks) v marks f) where
+  pub is_spent : v.found ≡ None → (joined : Bool) × Redeeming k d s ticket room (length marks) (Err (placed Spent (number_in ticket))) (zeros room) s joined
+  is_spent e = (
+    false,
+    spent f (verdict_is k d s ticket room (length marks) entry ∙ c.passed)
+        (λ x i o. none_at d (number_in ticket) 0 f.1 (sym c.finds ∙ e) (x.node, in_map (λ (y : Link). y.node) x f.1 i, o)) refl still refl,
+  )
 
-      pub spots : {found : Found} {n : ℕ} → v.found ≡ Some found → n ≡ length s.slots → length marks ≡ m →
-          (front : List Link) × (x : Link) × (back : List Link) × Spotted k d s ticket room n v.length found marks f front x back
-      spots {found = found} e size l =
-          let p = found_at d (number_in ticket) 0 f.1 found (sym c.finds ∙ e) in
-          let a : Entered s.slots most_length room m = entered_by d entry in (
-            p.front,
-            p.link,
-            p.back,
-            record {
-              hit = record { verdict = ap (redeem_verdict k d s ticket room) l ∙ verdict_is ∙ c.passed; chain = p.split; covers = p.covers };
-              power = c.power;
-              size = sym size;
-              large = a.large;
-              wide = rw (size, l) a.wide;
-              reads = c.reads;
-              finds = rw last_same at p.is;
-              records = c.many;
-              marked = rw l c.marked;
-            },
-          )
+  pub spots : {found : Found} {n : ℕ} → v.found ≡ Some found → n ≡ length s.slots →
+      (front : List Link) × (x : Link) × (back : List Link) × Spotted k d s ticket room n v.length found marks f front x back
+  spots {found = found} e size =
+      let p = found_at d (number_in ticket) 0 f.1 found (sym c.finds ∙ e) in
+      let a : Entered s.slots max_record room (length marks) = entered_by d entry in (
+        p.front,
+        p.link,
+        p.back,
+        record {
+          hit = record { verdict = verdict_is k d s ticket room (length marks) entry ∙ c.passed; chain = p.split; covers = p.covers };
+          power = c.power;
+          size = sym size;
+          large = a.large;
+          wide = rw size a.wide;
+          reads = c.reads;
+          finds = p.is;
+          records = c.many;
+          marked = c.marked;
+        },
+      )

@@ -1,30 +1,23 @@
 -- The steps of a redemption, each by what it answers.
-use Rattle.std.specs.Prelude.{◌≡◌, ℕ, ◌+◌, ◌<◌, ◌≤◌, Bool, true, false, ◌&&◌, ◌⊎◌, List, length, Option, Some, None, Ok, Err, Result, nat_le}
+use Rattle.std.specs.Prelude.{◌≡◌, ℕ, ◌<◌, Bool, true, false, ◌⊎◌, List, length, Option, Some, None, Ok, Err, Result}
 use Rattle.octets.specs.Buffers.{zeros, filled}
 use Rattle.refusal.specs.declared.Refusal.TheVariants.{SealBroken, OpenedNotARecord}
 use Rattle.device.specs.Effects.{State}
 use Rattle.fault.specs.declared.Halt.{Halt}
 use Rattle.fault.specs.Faults.{placed}
-use Rattle.session.specs.Limits.{least_length, most_length}
+use Rattle.session.specs.Limits.{max_record}
 use Rattle.session.specs.Records.{is_record}
 use Rattle.sealer.specs.Outcomes.{PlainOf, NoPlain}
 use Rattle.tree.specs.Nodes.{Above}
 use Rattle.tree.specs.Values.{Expansion, key_from, Counted, sibling_values}
 use Rattle.generator.specs.Descent.{row_of}
-use Rattle.marks.specs.Rows.{room_of}
 use Rattle.chain.specs.declared.Found.{Found}
 use Rattle.chain.specs.declared.Survey.{Survey}
-use Rattle.chain.specs.Reading.{Link, link_at, file_of, sound}
-use Rattle.chain.specs.Listing.{between, find_in, marked_all}
-use Rattle.rules.specs.Kits.{Kit, numbers_in}
-use Rattle.sealer.specs.Limits.{heading_length}
-use Rattle.rules.specs.Tickets.{number_in}
-use Rattle.rules.specs.Files.{last_slot}
-use Rattle.rules.specs.Calls.{Sound, read_by, redeemable, Hit}
-
--- a ticket of so many bytes can be one of a sealer with this overhead
-abbrev pub ticket_fits : ℕ → ℕ → Bool
-ticket_fits overhead n = nat_le (heading_length + least_length + overhead) n && nat_le n (heading_length + most_length + overhead)
+use Rattle.chain.specs.Reading.{Link, link_at, file_of, Sound}
+use Rattle.chain.specs.Listing.{find_in, marked_all}
+use Rattle.calls.specs.Kits.{Kit, numbers_in}
+use Rattle.ticket.specs.Parts.{number_in}
+use Rattle.calls.specs.Calls.{Outcome, Admitted, read_by, redeemable, Redeeming, kept}
 
 -- the number that a ticket asks for, where there is a ticket
 abbrev pub asked_by : Option (List ℕ) → Option ℕ
@@ -40,7 +33,7 @@ passing (Err h) f = Err h
 pub record Known (k : Kit) (d : ℕ) (s : State) (ticket : List ℕ) (m : ℕ) (v : Survey) (marks : List ℕ) (f : Sound) : Type 0 where
   pub passed : redeemable k ticket (read_by k d s) ≡ Ok f
   pub power : s.power ≡ true
-  pub reads : file_of d (numbers_in k) s.slots ≡ sound f.0 f.1
+  pub reads : file_of d (numbers_in k) s.slots ≡ Ok f
   pub many : v.length ≡ length f.1
   pub finds : v.found ≡ find_in d (number_in ticket) 0 f.1
   pub marked : marks ≡ marked_all (zeros m) f.1
@@ -72,14 +65,8 @@ Unsealing sealing sealed n room (Err h) out =
     (NoPlain sealing sealed × (h ≡ placed SealBroken n))
     ⊎ ((plain : List ℕ) × PlainOf sealing sealed plain × (is_record plain ≡ false) × (h ≡ placed OpenedNotARecord n))
 
--- a redemption that has found its record: x, between front and back in the file f, with the marks on the chain's slots
-pub record Spotted (k : Kit) (d : ℕ) (s : State) (ticket : List ℕ) (room count many : ℕ) (found : Found) (marks : List ℕ) (f : Sound) (front : List Link) (x : Link) (back : List Link) : Type 0 where
-  pub hit : Hit k d s ticket room (length marks) f front x back
-  pub power : s.power ≡ true
-  pub size : length s.slots ≡ count
-  pub large : most_length ≤ room
-  pub wide : room_of count ≤ length marks
-  pub reads : file_of d (numbers_in k) s.slots ≡ sound f.0 f.1
-  pub finds : found ≡ between (last_slot 0 front) x back
-  pub records : many ≡ length f.1
-  pub marked : marks ≡ marked_all (zeros (length marks)) f.1
+-- the last steps of a redemption, on a device of so many slots: what they answer and leave, given that nothing stopped the call so far
+abbrev pub Spending : Kit → ℕ → State → List ℕ → ℕ → ℕ → Survey → List ℕ → Outcome → List ℕ → State → Type 0
+Spending k d s ticket room count v marks r state t =
+    Admitted d s.slots max_record room (length marks) (Ok count) → (f : Sound) → Known k d s ticket (length marks) v marks f →
+    (joined : Bool) × Redeeming k d s ticket room (length marks) r (kept r room state) t joined

@@ -6,109 +6,48 @@
 //! A state is given only once its number is spent on the device: all refusals come before the first write, and the answer after the last.
 #![tactic(auto)]
 
-ghost use Rattle.std.specs.Prelude.{◌≡◌, ◌<◌, ◌≤◌, Bool, true, cond, List, length, Some, None, Ok};
+ghost use Rattle.std.specs.Prelude.{◌≡◌, ◌<◌, ◌≤◌, Bool, true, List, length, Ok};
 ghost use Rattle.octets.specs.Buffers.{zeros};
-ghost use Rattle.session.specs.Limits.{most_length};
-ghost use Rattle.sealer.specs.Limits.{overhead_limit};
+ghost use Rattle.session.specs.Limits.{max_record};
+ghost use Rattle.ticket.specs.Limits.{ticket_fits};
+ghost use Rattle.ticket.specs.Parts.{number_in, heading_in, sealed_in};
 ghost use Rattle.tree.specs.Nodes.{tree_levels};
 ghost use Rattle.marks.specs.Rows.{room_of};
 ghost use Rattle.chain.specs.Reading.{Link};
 ghost use Rattle.scratch.specs.Clean.{Clean};
-ghost use Rattle.rules.specs.Kits.{Kit, kit_of};
-ghost use Rattle.rules.specs.Tickets.{name_in, number_in, heading_in, sealed_in};
-ghost use Rattle.rules.specs.Calls.{Sound, same_bytes, redeemable, Redeeming, kept};
-ghost use Rattle.redeeming.specs.Steps.{ticket_fits, asked_by, passing, Surveying, Met, Derived, Unsealing, Spotted};
+ghost use Rattle.calls.specs.Kits.{Kit, kit_of};
+ghost use Rattle.calls.specs.Calls.{redeemable, Redeeming, kept};
+ghost use Rattle.redeeming.specs.Steps.{asked_by, passing, Surveying, Met, Derived, Unsealing, Spending};
 
+use calls::{admit, numbers_of};
 use chain::{Found, Survey, read_marking};
 use device::{ReadSlots, SLOT_SIZE, WriteSlots};
 use fault::Halt;
 use generator::{Generator, Value, descend_keeping};
 use layout::{Head, copy_value};
-use octets::{clear, get, same_bytes};
+use octets::clear;
 use puncture::puncture;
 use refusal::Refusal;
-use rules::{admit, numbers_of};
 use scratch::Scratch;
-use sealer::{HEADING, NAME, Sealer};
-use session::{RECORD_LEAST, RECORD_LIMIT, is_record};
-use std::marker::Model;
+use sealer::Sealer;
+use session::{MAX_RECORD, is_record};
 use steps::read_at;
+use ticket::Ticket;
 use tree::LEVELS;
 
-// A ticket that is long enough for its heading, seen as its bytes.
-#[derive(Drop)]
-struct Ticket<'a> {
-    bytes: &'a [u8],
-}
-
-impl<'a> Model for Ticket<'a> {
-    ghost use Rattle.std.specs.Prelude.{ℕ, ◌≤◌, List, length};
-    ghost use Rattle.sealer.specs.Limits.{heading_length};
-
-    ghost Value = { List ℕ };
-
-    ghost view = { λ t. t.bytes.now };
-
-    ghost invariant = { λ t. heading_length ≤ length t.bytes.now };
-}
-
-impl<'a> Ticket<'a> {
-    // The ticket in some bytes, where it can be one of a sealer with this overhead. No `then_some`: it would build the ticket
-    // before its length is known, and a ticket has its heading by its type. Nor `then`: inside its closure the length is known
-    // only by a `requires` of its own, and so it is no shorter (tried).
-    fn of(bytes: &'a [u8], overhead: usize) -> Option<Ticket<'a>>
-        requires { overhead ≤ overhead_limit }
-        ensures { result ≡ cond (ticket_fits overhead (length bytes.now)) (Some bytes.now) None }
-    {
-        let fitting = HEADING + RECORD_LEAST + overhead..=HEADING + RECORD_LIMIT + overhead;
-        if fitting.contains(&bytes.len()) {
-            Some(Ticket { bytes })
-        } else {
-            None
-        }
+// Checks a ticket's name and its number against the head.
+#[tactic(auto, using(crate::proofs::Checks::other, crate::proofs::Checks::same))]
+fn check(ticket: &Ticket, head: &Head) -> Result<(), Halt>
+    ensures { (k : Kit) (xs : List Link) → ticket_fits k.sealer.overhead (length ticket.now) ≡ true → redeemable k ticket.now (Ok (head.now, xs)) ≡ passing result (head.now, xs) }
+{
+    if !ticket.bears(&head.name) {
+        return Err(Halt::plain(Refusal::OtherName));
     }
-
-    // Whether it bears a name.
-    fn bears(&self, name: &[u8; NAME]) -> bool
-        ensures { result ≡ same_bytes (name_in self.now) name.now }
-    {
-        same_bytes(&self.bytes[0..NAME], name)
+    let number = ticket.number();
+    if number >= head.issued {
+        return Err(Halt::at(Refusal::NotIssued, number));
     }
-
-    // The number in its heading.
-    fn number(&self) -> u32
-        ensures { result ≡ number_in self.now }
-    {
-        get(self.bytes, NAME)
-    }
-
-    // Its heading.
-    fn heading(&self) -> &[u8; HEADING]
-        ensures { result.now ≡ heading_in self.now }
-    {
-        self.bytes.first_chunk().unwrap()
-    }
-
-    // Its sealed part.
-    fn sealed(&self) -> &[u8]
-        ensures { result.now ≡ sealed_in self.now }
-    {
-        &self.bytes[HEADING..]
-    }
-
-    // Checks its name and its number against the head.
-    fn check(&self, head: &Head) -> Result<(), Halt>
-        ensures { (k : Kit) (xs : List Link) → ticket_fits k.sealer.overhead (length self.now) ≡ true → redeemable k self.now (Ok (head.now, xs)) ≡ passing result (head.now, xs) }
-    {
-        if !self.bears(&head.name) {
-            return Err(Halt::plain(Refusal::OtherName));
-        }
-        let number = self.number();
-        if number >= head.issued {
-            return Err(Halt::at(Refusal::NotIssued, number));
-        }
-        Ok(())
-    }
+    Ok(())
 }
 
 // The number that a ticket asks for, where there is a ticket. It stands apart from its one use: of a `map` in the middle of
@@ -136,7 +75,7 @@ fn read_for<'a, D: ReadSlots, G: Generator, S: Sealer>(
     let Some(ticket) = ticket else {
         return Err(Halt::plain(Refusal::TicketLength));
     };
-    ticket.check(&survey.head)?;
+    check(&ticket, &survey.head)?;
     Ok((ticket, survey))
 }
 
@@ -170,7 +109,7 @@ fn open_ticket<S: Sealer>(
     state: &mut [u8],
     pad: &mut [u8; SLOT_SIZE],
 ) -> Result<usize, Halt>
-    ensures { most_length ≤ length state.old → Unsealing ((S.Sealer.meaning sealer.now).sealing key.now (heading_in ticket.now)) (sealed_in ticket.now) (number_in ticket.now) (length state.old) result state.new }
+    ensures { max_record ≤ length state.old → Unsealing ((S.Sealer.meaning sealer.now).sealing key.now (heading_in ticket.now)) (sealed_in ticket.now) (number_in ticket.now) (length state.old) result state.new }
 {
     let opened = sealer
         .open(key, ticket.heading(), ticket.sealed(), state, pad)
@@ -184,23 +123,26 @@ fn open_ticket<S: Sealer>(
     Ok(length)
 }
 
-// Opens the ticket under the record found, and punctures the tree at its number. `records` is the chain's length.
+// Opens the ticket under the record that covers its number, and punctures the tree there.
 fn spend<D: WriteSlots, G: Generator, S: Sealer>(
     device: &mut D,
     generator: &G,
     sealer: &S,
     count: u16,
-    records: u32,
-    found: &Found,
+    survey: &Survey,
     ticket: &Ticket,
     state: &mut [u8],
     marks: &[u8],
     scratch: &mut Scratch,
 ) -> Result<(usize, u32), Halt>
-    ensures { (f : Sound) (front : List Link) (x : Link) (back : List Link) → Spotted (kit_of (G.Generator.meaning generator.now) (S.Sealer.meaning sealer.now)) tree_levels (D.ReadSlots.state device.old) ticket.now (length state.old) count records found.now marks.now f front x back → (joined : Bool) × Redeeming (kit_of (G.Generator.meaning generator.now) (S.Sealer.meaning sealer.now)) tree_levels (D.ReadSlots.state device.old) ticket.now (length state.old) (length marks.now) result (kept result (length state.old) state.new) (D.ReadSlots.state device.new) joined }
+    ensures { Spending (kit_of (G.meaning generator.now) (S.meaning sealer.now)) tree_levels (D.state device.old) ticket.now (length state.old) count survey.now marks.now result state.new (D.state device.new) }
 {
     let number = ticket.number();
-    let calls = derive_key(device, generator, found, number, scratch)?;
+    let records = survey.length;
+    let Some(found) = survey.found else {
+        return Err(Halt::at(Refusal::Spent, number));
+    };
+    let calls = derive_key(device, generator, &found, number, scratch)?;
     let length = open_ticket(
         sealer,
         ticket,
@@ -214,7 +156,7 @@ fn spend<D: WriteSlots, G: Generator, S: Sealer>(
     puncture(
         device,
         count,
-        found,
+        &found,
         number,
         &scratch.row,
         marks,
@@ -235,22 +177,10 @@ fn redeem_in<D: WriteSlots, G: Generator, S: Sealer>(
 ) -> Result<(usize, u32), Halt>
     ensures { (joined : Bool) × Redeeming (kit_of (G.Generator.meaning generator.now) (S.Sealer.meaning sealer.now)) tree_levels (D.ReadSlots.state device.old) ticket.now (length state.old) (length marks.old) result (kept result (length state.old) state.new) (D.ReadSlots.state device.new) joined }
 {
-    let count = admit(device, RECORD_LIMIT, state.len(), marks.len())?;
+    let count = admit(device, MAX_RECORD, state.len(), marks.len())?;
     let (ticket, survey) = read_for(device, generator, sealer, ticket, marks, &mut scratch.slot)?;
-    let Some(found) = survey.found else {
-        return Err(Halt::at(Refusal::Spent, ticket.number()));
-    };
     spend(
-        device,
-        generator,
-        sealer,
-        count,
-        survey.length,
-        &found,
-        &ticket,
-        state,
-        marks,
-        scratch,
+        device, generator, sealer, count, &survey, &ticket, state, marks, scratch,
     )
 }
 

@@ -3,7 +3,7 @@ use Rattle.std.specs.Prelude.{ℕ, cond, min, List, length, take, replicate, Opt
 use Rattle.octets.specs.Buffers.{filled}
 use Rattle.session.specs.declared.Suite.TheVariants.{Aes128GcmSha256}
 use Rattle.session.specs.declared.SessionState.{SessionState}
-use Rattle.session.specs.Limits.{secret_limit, name_limit, lifetime_limit}
+use Rattle.session.specs.Limits.{max_secret, max_name, max_lifetime}
 use Rattle.session.specs.Records.{fields_fit, encode_of}
 use Rattle.samples.specs.declared.Bytes.{Bytes}
 
@@ -12,12 +12,12 @@ abbrev pub session_of : List ℕ → ℕ → SessionState
 session_of name mark = record {
   suite = Aes128GcmSha256;
   issued_at = 1700000000;
-  lifetime = lifetime_limit;
+  lifetime = max_lifetime;
   age_add = mark;
   early_data_limit = 16384;
-  secret = replicate secret_limit mark;
-  name = filled (take name_limit name) name_limit;
-  name_length = min (length name) name_limit;
+  secret = replicate max_secret mark;
+  name = filled (take max_name name) max_name;
+  name_length = min (length name) max_name;
 }
 
 -- the record of a state from the start of a row of 160 bytes; none where its fields make none

@@ -9,10 +9,10 @@ ghost use Rattle.samples.specs.Rows.{journal_byte, changed};
 
 use anyhow::anyhow;
 use device::SLOT_SIZE;
-use sealer::NAME;
-use session::{LIFETIME_LIMIT, NAME_LIMIT, SECRET_LENGTH, SessionState, Suite};
+use session::{MAX_LIFETIME, MAX_NAME, SECRET_LENGTH, SessionState, Suite};
 use std::array;
 use std::fmt::Display;
+use ticket::NAME;
 
 /// A root value.
 pub const ROOT: [u8; 32] = [0x5a; 32];
@@ -171,13 +171,13 @@ pub fn session(name: &[u8], mark: u8) -> SessionState
     ensures is { result ≡ session_of name.now mark }
     ensures fits { Fits result }
 {
-    let length = name.len().min(NAME_LIMIT);
-    let mut row = [0; NAME_LIMIT];
+    let length = name.len().min(MAX_NAME);
+    let mut row = [0; MAX_NAME];
     row[..length].copy_from_slice(&name[..length]);
     SessionState {
         suite: Suite::Aes128GcmSha256,
         issued_at: 1_700_000_000,
-        lifetime: LIFETIME_LIMIT,
+        lifetime: MAX_LIFETIME,
         age_add: mark as u32,
         early_data_limit: 16_384,
         secret: [mark; SECRET_LENGTH],

@@ -1,4 +1,3 @@
 pub mod Limits
 pub mod Meaning
-pub mod Headings
 pub mod Outcomes

@@ -6,26 +6,16 @@
 
 ghost use Rattle.std.specs.Prelude.{◌≡◌, length};
 ghost use Rattle.octets.specs.Buffers.{zeros};
-ghost use Rattle.sealer.specs.Limits.{plain_limit, overhead_limit, name_length, heading_length};
+ghost use Rattle.sealer.specs.Limits.{max_plain};
 ghost use Rattle.sealer.specs.Meaning.{SealerMeaning, LawfulSealer};
-ghost use Rattle.sealer.specs.Headings.{heading_of};
 ghost use Rattle.sealer.specs.Outcomes.{Sealed, Opened};
 
-use octets::put;
 use refusal::Refusal;
-use session::RECORD_LIMIT;
+use session::MAX_RECORD;
+use ticket::HEADING;
 
 /// The bytes of the longest plain.
-pub const PLAIN_LIMIT: usize = RECORD_LIMIT;
-
-/// The most bytes that a sealing has beyond its plain.
-pub const OVERHEAD_LIMIT: usize = 32;
-
-/// The bytes of a key's name.
-pub const NAME: usize = 16;
-
-/// The bytes of a heading: a key's name and a ticket's number.
-pub const HEADING: usize = NAME + 4;
+pub const MAX_PLAIN: usize = MAX_RECORD;
 
 /// A way to seal plains.
 // Key and heading stay two parameters: each lies in a buffer of its own, and a struct of both would be made anew for each call. That
@@ -70,19 +60,7 @@ pub trait Sealer {
     ghost lawful: { (s : Self) → LawfulSealer (meaning s) };
 }
 
-/// The limits of plains and of overheads, and the lengths of names and headings.
+/// The limit of plains.
 pub fn limits_stand()
-    ensures plain { PLAIN_LIMIT ≡ plain_limit }
-    ensures overhead { OVERHEAD_LIMIT ≡ overhead_limit }
-    ensures name { NAME ≡ name_length }
-    ensures heading { HEADING ≡ heading_length }
+    ensures { MAX_PLAIN ≡ max_plain }
 {}
-
-/// Writes the heading of a ticket: the key's name, and the ticket's number.
-#[tactic(auto, using(crate::proofs::Parts::number_after_name))]
-pub fn heading(name: &[u8; NAME], number: u32, out: &mut [u8; HEADING])
-    ensures { out.new ≡ heading_of name.now number }
-{
-    out[..NAME].copy_from_slice(name);
-    put(out, NAME, number);
-}

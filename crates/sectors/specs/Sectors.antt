@@ -1,7 +1,7 @@
 -- The slots of a row of bytes that is written in whole sectors.
 use Rattle.std.specs.Prelude.{ℕ, ◌*◌, ◌/◌, List, length}
 use Rattle.device.specs.Effects.{Slots, slot_size}
-use Rattle.medium.specs.Rows.{slots_in}
+use Rattle.row.specs.Rows.{slots_in}
 
 -- the bytes of a sector, and its slots
 abbrev pub sector_size : ℕ

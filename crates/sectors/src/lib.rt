@@ -4,13 +4,13 @@
 
 ghost use Rattle.std.specs.Prelude.{◌≡◌, ◌*◌, ◌/◌, ◌<◌, ◌≤◌, length, replicate, refl};
 ghost use Rattle.device.specs.Effects.{Tearing, Restarting, slot_size};
-ghost use Rattle.medium.specs.Rows.{Row, state_by, fresh, placed};
-ghost use Rattle.medium.specs.Appointed.{appointed, Struck, Restarted, partly};
-ghost use Rattle.medium.proofs.Rows.{sized_parts};
+ghost use Rattle.row.specs.Rows.{Row, state_by, fresh, placed};
+ghost use Rattle.row.specs.Appointed.{appointed, Struck, Restarted, partly};
+ghost use Rattle.row.proofs.Rows.{sized_parts};
 ghost use Rattle.sectors.specs.Sectors.{slots_by_sector, sector_size, sector_slots};
 
 use device::{DeviceFault, ReadSlots, SLOT_SIZE, TearSlots};
-use medium::{Bottom, Cut, answer};
+use row::{Bottom, Cut, answer};
 use std::marker::Model;
 
 /// The bytes of a sector.
@@ -55,7 +55,6 @@ impl<'a> SectorImage<'a> {
     }
 
     // Puts the first bytes of a slot in place, by way of its whole sector.
-    #[tactic(auto, using(crate::proofs::Sectors::stored))]
     fn store(&mut self, index: usize, bytes: &[u8])
         requires { (index < length self.old.row / sector_size * sector_slots) × (length bytes.now ≤ slot_size) }
         ensures { self.new ≡ placed index bytes.now self.old }
@@ -74,19 +73,19 @@ impl<'a> ReadSlots for SectorImage<'a> {
 
     ghost sized = { λ s k h. sized_parts sector_size sector_slots s.row refl k h };
 
-    #[tactic(auto, using(medium::proofs::Rows::many))]
+    #[tactic(auto, using(row::proofs::Rows::many))]
     fn count(&self) -> usize {
         self.base.size() / SECTOR_SIZE * SECTOR_SLOTS
     }
 
-    #[tactic(auto, using(medium::proofs::Rows::slots))]
+    #[tactic(auto, using(row::proofs::Rows::slots))]
     fn read(&self, index: usize, out: &mut [u8; SLOT_SIZE]) -> Result<(), DeviceFault> {
         self.base.read(self.count(), index, out)
     }
 }
 
 impl<'a> TearSlots for SectorImage<'a> {
-    #[tactic(auto, using(medium::proofs::Rows::many, crate::proofs::Sectors::writes))]
+    #[tactic(auto, using(row::proofs::Rows::many, crate::proofs::Sectors::writes))]
     fn write(&mut self, index: usize, bytes: &[u8; SLOT_SIZE]) -> Result<(), DeviceFault>
         ensures meaning { Tearing (state_by slots_by_sector self.old) index bytes.now result (state_by slots_by_sector self.new) }
         ensures exact { Struck partly slots_by_sector self.old index bytes.now result self.new }

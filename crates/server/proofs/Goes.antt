@@ -5,13 +5,13 @@ use Rattle.fault.specs.declared.Call.{Call}
 use Rattle.fault.specs.declared.Fault.{Fault}
 use Rattle.fault.specs.Faults.{fault_of}
 use Rattle.tree.specs.Nodes.{tree_levels}
-use Rattle.rules.specs.Kits.{Kit, Lawful}
+use Rattle.calls.specs.Kits.{Kit, Lawful}
 use Rattle.generator.specs.Bytes.{value_length}
-use Rattle.sealer.specs.Limits.{name_length}
-use Rattle.rules.specs.Calls.{Outcome, Making, Making.declined, Making.stopped, Making.cut, Making.made}
-use Rattle.rules.specs.Books.{Book, Deed, fed}
-use Rattle.rules.specs.Pasts.{Mode, running, cold, is_no_power, mode_after, Past, Past.issued, Past.redeemed, Past.closed, Past.reopened}
-use Rattle.rules.specs.Pasts as pasts
+use Rattle.ticket.specs.Limits.{name_length}
+use Rattle.calls.specs.Calls.{Outcome, Making, Making.declined, Making.stopped, Making.cut, Making.made}
+use Rattle.calls.specs.Books.{Book, Deed, fed}
+use Rattle.calls.specs.Pasts.{running, cold, is_no_power, mode_after, Past, Past.issued, Past.redeemed, Past.closed, Past.reopened}
+use Rattle.calls.specs.Pasts as pasts
 use Rattle.law.proofs.LawHolds.{law_holds}
 use Rattle.server.specs.declared.Cold.{Cold}
 use Rattle.server.specs.declared.Running.{Running}

@@ -1,4 +1,4 @@
--- What the calls of a server promise: what they do (crate rules), what they hand back, and that a past goes on.
+-- What the calls of a server promise: what they do (crate calls), what they hand back, and that a past goes on.
 use Rattle.std.specs.Prelude.{◌≡◌, ℕ, Bool, true, false, List, Ok, Err, Result}
 use Rattle.device.specs.Effects.{State}
 use Rattle.fault.specs.declared.Call.{Call}
@@ -7,10 +7,10 @@ use Rattle.fault.specs.declared.Halt.{Halt}
 use Rattle.fault.specs.declared.Fault.{Fault}
 use Rattle.fault.specs.Faults.{fault_of}
 use Rattle.tree.specs.Nodes.{tree_levels}
-use Rattle.rules.specs.Kits.{Kit, Lawful}
-use Rattle.rules.specs.Calls.{Outcome, Making, Issuing, Redeeming, Reopening}
-use Rattle.rules.specs.Books.{Book, Deed, fresh_book, issue, redeem, close, reopen, fed}
-use Rattle.rules.specs.Pasts.{Mode, running, cold, is_no_power, wants_power, Past}
+use Rattle.calls.specs.Kits.{Kit, Lawful}
+use Rattle.calls.specs.Calls.{Outcome, Making, Issuing, Redeeming, Reopening}
+use Rattle.calls.specs.Books.{Book, Deed, fresh_book, issue, redeem, close, reopen, fed}
+use Rattle.calls.specs.Pasts.{Mode, running, cold, is_no_power, wants_power, Past}
 use Rattle.law.specs.Law.{Law}
 use Rattle.server.specs.declared.Cold.{Cold}
 use Rattle.server.specs.declared.Running.{Running}
@@ -26,7 +26,7 @@ abbrev pub faulted : {A : Type 0} → Call → Result A Halt → Result A Fault
 faulted c (Ok a) = Ok a
 faulted c (Err h) = Err (fault_of c h)
 
--- ---- the calls over the parts of a server: what the rules say, and the fault for what stopped the call
+-- ---- the calls over the parts of a server: what crate calls says, and the fault for what stopped the call
 abbrev pub Within : {A : Type 0} → Call → Result A Fault → (Result A Halt → Type 0) → Type 0
 Within {A = A} c a Did = (r : Result A Halt) × (a ≡ faulted c r) × Did r
 

@@ -2,13 +2,13 @@
 //!
 //! A server owns its device, generator and sealer, and is cold or running. Only a running one issues and redeems,
 //! and a call that meets a power cut gives a cold one back, so going on without reopening does not compile.
-//! What each call does stands in crate `rules`, the law over the pasts of a tree in crate `law`.
+//! What each call does stands in crate `calls`, the law over the pasts of a tree in crate `law`.
 #![tactic(auto)]
 
 ghost use Rattle.std.specs.Prelude.{◌≡◌, length};
 ghost use Rattle.octets.specs.Buffers.{zeros};
 ghost use Rattle.scratch.specs.Clean.{Clean};
-ghost use Rattle.rules.specs.Kits.{kit_of};
+ghost use Rattle.calls.specs.Kits.{kit_of};
 ghost use Rattle.server.specs.Serving.{MakeCall, IssueCall, RedeemCall, CloseCall, ReopenCall, cold_of, running_of, started_by, answered_by};
 
 mod parts;
@@ -18,7 +18,8 @@ use fault::Fault;
 use generator::{Generator, Value};
 use refusal::Refusal;
 use scratch::Scratch;
-use sealer::{NAME, Sealer};
+use sealer::Sealer;
+use ticket::NAME;
 
 /// A server that has to be made or reopened first.
 pub struct Cold<D, G, S> {

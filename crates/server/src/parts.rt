@@ -5,18 +5,20 @@
 ghost use Rattle.std.specs.Prelude.{◌≡◌, length};
 ghost use Rattle.octets.specs.Buffers.{zeros};
 ghost use Rattle.scratch.specs.Clean.{Clean};
-ghost use Rattle.rules.specs.Kits.{kit_of};
+ghost use Rattle.calls.specs.Kits.{kit_of};
 ghost use Rattle.server.specs.Serving.{faulted, MakeWithin, IssueWithin, RedeemWithin, ReopenWithin};
 
+use calls::numbers_of;
 use device::WriteSlots;
 use fault::{Call, Fault, Halt};
 use generator::{Generator, Value};
 use issuing::issue_on;
-use opening::{make_on, reopen_on};
+use making::make_on;
 use redeeming::redeem_on;
-use rules::numbers_of;
+use reopening::reopen_on;
 use scratch::Scratch;
-use sealer::{NAME, Sealer};
+use sealer::Sealer;
+use ticket::NAME;
 
 // What a call answers: the call and the layer are added to what stopped it.
 fn told<T>(call: Call, answer: Result<T, Halt>) -> Result<T, Fault>

@@ -6,16 +6,16 @@ use Rattle.octets.specs.Buffers.{zeros, is_blank}
 use Rattle.octets.proofs.Blank.{zeros_from_blank, blank_from_zeros}
 use Rattle.session.specs.declared.Suite.{Suite}
 use Rattle.session.specs.declared.SessionState.{SessionState}
-use Rattle.session.specs.Limits.{name_limit, most_length}
+use Rattle.session.specs.Limits.{max_name, max_record}
 use Rattle.session.specs.Records.{Typed, Fits, fields_fit, encode_of, record_suite, read_under, decode_of, written_of}
 use Rattle.session.specs.Laws.{RecordLaws, LifetimeExamples, lasting}
 use Rattle.session.proofs.Laid.{suite_laid}
 use Rattle.session.proofs.Trip.{parts, back, forth, tells, read_test, record_long, least, most}
 
-pub fields_fit_is : (s : SessionState) → length s.name ≡ name_limit → Decides (fields_fit s) (Fits s)
+pub fields_fit_is : (s : SessionState) → length s.name ≡ max_name → Decides (fields_fit s) (Fits s)
 unfolding fields_fit
 fields_fit_is s n =
-    let rest : length (drop s.name_length s.name) ≡ name_limit - s.name_length = length-drop s.name_length s.name ∙ rw n in (
+    let rest : length (drop s.name_length s.name) ≡ max_name - s.name_length = length-drop s.name_length s.name ∙ rw n in (
       (λ e.
           let blank : is_blank (drop s.name_length s.name) ≡ true = grind (arith, e) in
           record {
@@ -25,7 +25,7 @@ fields_fit_is s n =
             after = zeros_from_blank (drop s.name_length s.name) blank ∙ ap zeros rest;
           }),
       λ f.
-          let blank : is_blank (drop s.name_length s.name) ≡ true = ap is_blank f.after ∙ blank_from_zeros (name_limit - s.name_length) in
+          let blank : is_blank (drop s.name_length s.name) ≡ true = ap is_blank f.after ∙ blank_from_zeros (max_name - s.name_length) in
           grind (arith, f.lived, f.expires, f.named, blank),
     )
 
@@ -49,13 +49,13 @@ reading_refused s y =
     let p = parts (lasting 604801 s) (lasting_typed 604801 s (omega arith) y) in
     none_read (record_suite b) b (λ t e. omega (arith, (suite_laid b t e).expires, p.lifetime))
 
-writes : (s : SessionState) (room : ℕ) → Typed s → Fits s → most_length ≤ room → is_ok (written_of (lasting 604800 s) room) ≡ true
+writes : (s : SessionState) (room : ℕ) → Typed s → Fits s → max_record ≤ room → is_ok (written_of (lasting 604800 s) room) ≡ true
 unfolding written_of
 writes s room y f h =
     let fit : fields_fit (lasting 604800 s) ≡ true = (fields_fit_is (lasting 604800 s) y.name).1 (lasting_fits s f) in
     grind (arith, fit)
 
-writing_refused : (s : SessionState) (room : ℕ) → most_length ≤ room → written_of (lasting 604801 s) room ≡ Err NotARecord
+writing_refused : (s : SessionState) (room : ℕ) → max_record ≤ room → written_of (lasting 604801 s) room ≡ Err NotARecord
 unfolding written_of fields_fit
 writing_refused s room h = grind arith
 

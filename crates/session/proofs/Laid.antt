@@ -4,17 +4,17 @@ use Rattle.std.proofs.lemmas.Bool.{ltb-false}
 use Rattle.octets.specs.Fields.{number_of}
 use Rattle.session.specs.declared.Suite.{Suite}
 use Rattle.session.specs.declared.SessionState.{SessionState}
-use Rattle.session.specs.Limits.{name_limit, lifetime_limit, name_at, least_length}
+use Rattle.session.specs.Limits.{max_name, max_lifetime, name_at, min_record}
 use Rattle.session.specs.Suites.{suite_number, suite_of}
 use Rattle.session.specs.Records.{laid_out, where_laid_out, record_suite, read_of, read_under}
 
 -- bytes that are laid out as a record of a suite
 pub record Laid (t : Suite) (b : List ℕ) : Type 0 where
-  pub long : least_length ≤ length b
+  pub long : min_record ≤ length b
   pub suited : number_of (take 2 b) ≡ suite_number t
   pub lived : 1 ≤ number_of (take 4 (drop 10 b))
-  pub expires : number_of (take 4 (drop 10 b)) ≤ lifetime_limit
-  pub named : get_or b (name_at t) 0 ≤ name_limit
+  pub expires : number_of (take 4 (drop 10 b)) ≤ max_lifetime
+  pub named : get_or b (name_at t) 0 ≤ max_name
   pub whole : length b ≡ name_at t + 1 + get_or b (name_at t) 0
 
 number_suite : (n : ℕ) (t : Suite) → suite_of n ≡ Some t → n ≡ suite_number t
@@ -26,7 +26,7 @@ where_some x o b t e = grind arith
 pub suite_laid : (b : List ℕ) (t : Suite) → record_suite b ≡ Some t → Laid t b
 unfolding record_suite laid_out
 suite_laid b t e =
-    let w = where_some (ltb (length b) least_length) (suite_of (number_of (take 2 (drop 0 b)))) b t e in
+    let w = where_some (ltb (length b) min_record) (suite_of (number_of (take 2 (drop 0 b)))) b t e in
     let laid = w.2 in
     record {
       long = ltb-false _ _ w.0;
@@ -37,7 +37,7 @@ suite_laid b t e =
       whole = grind (arith, laid);
     }
 
-pub long_laid : (b : List ℕ) (t : Suite) → record_suite b ≡ Some t → least_length ≤ length b
+pub long_laid : (b : List ℕ) (t : Suite) → record_suite b ≡ Some t → min_record ≤ length b
 long_laid b t e = (suite_laid b t e).long
 
 pub laid_suite : (b : List ℕ) (t : Suite) → Laid t b → record_suite b ≡ Some t

@@ -7,7 +7,7 @@ use Rattle.octets.specs.Fields.{bytes_of, number_of}
 use Rattle.octets.proofs.Fielded.{length_bytes, number_bytes, bytes_number}
 use Rattle.session.specs.declared.Suite.{Suite}
 use Rattle.session.specs.declared.SessionState.{SessionState}
-use Rattle.session.specs.Limits.{secret_length, name_limit, secret_at, name_at, least_length, most_length}
+use Rattle.session.specs.Limits.{secret_length, max_name, secret_at, name_at, min_record, max_record}
 use Rattle.session.specs.Suites.{suite_number}
 use Rattle.session.specs.Records.{Bytes, Typed, Fits, encode_of, IsRecord, record_suite, is_record, read_of, read_under, decode_of}
 use Rattle.octets.proofs.Parts.{part_small, part_rest}
@@ -88,7 +88,7 @@ state_laid s t f =
       whole = omega (arith, record_long s t f, p.count);
     }
 
-name_back : (s : SessionState) → Typed s → Fits s → filled (take s.name_length s.name) name_limit ≡ s.name
+name_back : (s : SessionState) → Typed s → Fits s → filled (take s.name_length s.name) max_name ≡ s.name
 name_back s t f = grind (arith, common_steps, t.name, f.named, f.after)
 
 pub read_back : (s : SessionState) → Typed s → Fits s → read_of s.suite (encode_of s) ≡ s
@@ -106,14 +106,14 @@ unfolding decode_of
 back s t f = rw (suited s t f, read_back s t f)
 
 module _ (b : List ℕ) (t : Suite) (small : Bytes b) (l : Laid t b) where
-  cut : (k m : ℕ) → k + m ≤ least_length → (length (take m (drop k b)) ≡ m) × Bytes (take m (drop k b))
+  cut : (k m : ℕ) → k + m ≤ min_record → (length (take m (drop k b)) ≡ m) × Bytes (take m (drop k b))
   cut k m h =
       (length-take-le m (drop k b) (omega (arith, length-drop k b, l.long)), part_small k m b small)
 
-  number_back : (k m : ℕ) → k + m ≤ least_length → bytes_of m (number_of (take m (drop k b))) ≡ take m (drop k b)
+  number_back : (k m : ℕ) → k + m ≤ min_record → bytes_of m (number_of (take m (drop k b))) ≡ take m (drop k b)
   number_back k m h = bytes_number m (take m (drop k b)) (cut k m h).0 (cut k m h).1
 
-  number_under : (k m : ℕ) → k + m ≤ least_length → number_of (take m (drop k b)) < 256 ^ m
+  number_under : (k m : ℕ) → k + m ≤ min_record → number_of (take m (drop k b)) < 256 ^ m
   number_under k m h = number_below m (take m (drop k b)) (cut k m h).0 (cut k m h).1
 
   rest_long : length (drop (name_at t + 1) b) ≡ get_or b (name_at t) 0
@@ -128,7 +128,7 @@ module _ (b : List ℕ) (t : Suite) (small : Bytes b) (l : Laid t b) where
         age_add = number_under 14 4 (omega arith);
         early_data_limit = number_under 18 4 (omega arith);
         secret = (cut secret_at (secret_length t) (omega arith)).0;
-        name = length_filled (drop (name_at t + 1) b) name_limit (omega (arith, rest_long, l.named));
+        name = length_filled (drop (name_at t + 1) b) max_name (omega (arith, rest_long, l.named));
       }
 
   pub read_fits : Fits (read_of t b)
@@ -139,14 +139,14 @@ module _ (b : List ℕ) (t : Suite) (small : Bytes b) (l : Laid t b) where
         lived = l.lived;
         expires = l.expires;
         named = l.named;
-        after = drop_at (drop (name_at t + 1) b) (zeros (name_limit - length (drop (name_at t + 1) b))) (get_or b (name_at t) 0) n ∙ rw n;
+        after = drop_at (drop (name_at t + 1) b) (zeros (max_name - length (drop (name_at t + 1) b))) (get_or b (name_at t) 0) n ∙ rw n;
       }
 
   pub read_whole : encode_of (read_of t b) ≡ b
   unfolding read_of encode_of
   read_whole =
-      let name : take (get_or b (name_at t) 0) (filled (drop (name_at t + 1) b) name_limit) ≡ drop (name_at t + 1) b =
-      take_at (drop (name_at t + 1) b) (zeros (name_limit - length (drop (name_at t + 1) b))) (get_or b (name_at t) 0) rest_long in
+      let name : take (get_or b (name_at t) 0) (filled (drop (name_at t + 1) b) max_name) ≡ drop (name_at t + 1) b =
+      take_at (drop (name_at t + 1) b) (zeros (max_name - length (drop (name_at t + 1) b))) (get_or b (name_at t) 0) rest_long in
       let end : get_or b (name_at t) 0 ∷ drop (name_at t + 1) b ≡ drop (name_at t) b = sym (drop_more b (name_at t) 0 (omega (arith, l.whole))) in
       let suite : bytes_of 2 (suite_number t) ≡ take 2 b = ap (bytes_of 2) (sym l.suited) ∙ number_back 0 2 (omega arith) in
       rw (
@@ -197,8 +197,8 @@ tells b small = (
   λ r. ap (λ (x : List ℕ). is_some (record_suite x)) (sym r.laid) ∙ rw (laid_suite (encode_of r.state) r.state.suite (state_laid r.state r.typed r.fits)),
 )
 
-pub least : (b : List ℕ) → is_record b ≡ true → least_length ≤ length b
+pub least : (b : List ℕ) → is_record b ≡ true → min_record ≤ length b
 least b e = (test_laid b e).1.long
 
-pub most : (b : List ℕ) → is_record b ≡ true → length b ≤ most_length
+pub most : (b : List ℕ) → is_record b ≡ true → length b ≤ max_record
 most b e = omega (arith, (test_laid b e).1.whole, (test_laid b e).1.named)

@@ -7,13 +7,13 @@ use Rattle.octets.specs.Fields.{bytes_of}
 use Rattle.octets.proofs.Fielded.{length_bytes}
 use Rattle.refusal.specs.declared.Refusal.{Refusal}
 use Rattle.session.specs.declared.SessionState.{SessionState}
-use Rattle.session.specs.Limits.{time_at, lifetime_at, age_add_at, early_data_at, name_at, secret_at, most_length}
+use Rattle.session.specs.Limits.{time_at, lifetime_at, age_add_at, early_data_at, name_at, secret_at, max_record}
 use Rattle.session.specs.Suites.{suite_number}
 use Rattle.session.specs.Records.{Typed, Fits, fields_fit, encode_of, decode_of, written_of, buffer_of}
 use Rattle.session.proofs.Rows.{filled_none, filled_next, filled_byte}
 use Rattle.session.proofs.Trip.{record_long, back}
 
-module _ (s : SessionState) (n : ℕ) (t : Typed s) (f : Fits s) (room : most_length ≤ n) where
+module _ (s : SessionState) (n : ℕ) (t : Typed s) (f : Fits s) (room : max_record ≤ n) where
   abbrev nm : List ℕ
   nm = take s.name_length s.name
 

@@ -3,23 +3,23 @@ use Rattle.std.specs.Prelude.{ℕ, ◌+◌}
 use Rattle.session.specs.declared.Suite.{Suite}
 
 -- the bytes of the shortest secret and of the longest
-abbrev pub secret_least : ℕ
-secret_least = 32
+abbrev pub min_secret : ℕ
+min_secret = 32
 
-abbrev pub secret_limit : ℕ
-secret_limit = 32
+abbrev pub max_secret : ℕ
+max_secret = 32
 
 -- the bytes of the secret of a session under a suite
 abbrev pub secret_length : Suite → ℕ
 secret_length s = 32
 
 -- the most bytes of a name
-abbrev pub name_limit : ℕ
-name_limit = 32
+abbrev pub max_name : ℕ
+max_name = 32
 
 -- the longest lifetime, in seconds
-abbrev pub lifetime_limit : ℕ
-lifetime_limit = 604800
+abbrev pub max_lifetime : ℕ
+max_lifetime = 604800
 
 -- where the fields begin: the time of issue after the suite, then the lifetime, the age add, the early data limit and the secret
 abbrev pub time_at : ℕ
@@ -42,9 +42,9 @@ abbrev pub name_at : Suite → ℕ
 name_at s = secret_at + secret_length s
 
 -- the bytes of the shortest record, which has no name
-abbrev pub least_length : ℕ
-least_length = secret_at + secret_least + 1
+abbrev pub min_record : ℕ
+min_record = secret_at + min_secret + 1
 
 -- the bytes of the longest record
-abbrev pub most_length : ℕ
-most_length = secret_at + secret_limit + 1 + name_limit
+abbrev pub max_record : ℕ
+max_record = secret_at + max_secret + 1 + max_name

@@ -6,7 +6,7 @@
 
 ghost use Rattle.std.specs.Prelude.{◌≡◌, ◌+◌, ◌≤◌, length, take, IfOk, Some, Ok, Decides};
 ghost use Rattle.octets.specs.Buffers.{pasted, is_blank};
-ghost use Rattle.session.specs.Limits.{secret_limit, secret_length, name_limit, lifetime_limit, least_length, most_length};
+ghost use Rattle.session.specs.Limits.{max_secret, secret_length, max_name, max_lifetime, min_record, max_record};
 ghost use Rattle.session.specs.Suites.{suite_number, suite_of, Decodes};
 ghost use Rattle.session.specs.Records.{lifetime_fits, fields_fit, Fits, Typed, encode_of, laid_out, record_suite, is_record, IsRecord, read_of, decode_of, written_of, buffer_of};
 ghost use Rattle.session.specs.Laws.{RecordLaws, LifetimeExamples};
@@ -18,10 +18,10 @@ use refusal::Refusal;
 pub const SECRET_LENGTH: usize = 32;
 
 /// The most bytes of a session's name.
-pub const NAME_LIMIT: usize = 32;
+pub const MAX_NAME: usize = 32;
 
 /// The longest lifetime in seconds: seven days.
-pub const LIFETIME_LIMIT: u32 = 604_800;
+pub const MAX_LIFETIME: u32 = 604_800;
 
 // Where the time of issue, the lifetime, the age add, the early data limit and the secret begin in a record.
 const TIME_AT: usize = 2;
@@ -35,10 +35,10 @@ const EARLY_DATA_AT: usize = AGE_ADD_AT + 4;
 const SECRET_AT: usize = EARLY_DATA_AT + 4;
 
 /// The bytes of the shortest record.
-pub const RECORD_LEAST: usize = SECRET_AT + SECRET_LENGTH + 1;
+pub const MIN_RECORD: usize = SECRET_AT + SECRET_LENGTH + 1;
 
 /// The bytes of the longest record.
-pub const RECORD_LIMIT: usize = SECRET_AT + SECRET_LENGTH + 1 + NAME_LIMIT;
+pub const MAX_RECORD: usize = SECRET_AT + SECRET_LENGTH + 1 + MAX_NAME;
 
 /// A cipher suite of TLS 1.3, with its number there.
 #[derive(Clone, Copy, PartialEq, Eq, Debug)]
@@ -99,7 +99,7 @@ pub struct SessionState {
     pub secret: [u8; SECRET_LENGTH],
     /// the name, from the start; zeros after it
     // a row with a length beside: memory is fixed, and the fields may hold anything, which `fits` judges
-    pub name: [u8; NAME_LIMIT],
+    pub name: [u8; MAX_NAME],
     pub name_length: u8,
 }
 
@@ -107,7 +107,7 @@ pub struct SessionState {
 fn lifetime_fits(seconds: u32) -> bool
     ensures { result ≡ lifetime_fits seconds }
 {
-    (1..=LIFETIME_LIMIT).contains(&seconds)
+    (1..=MAX_LIFETIME).contains(&seconds)
 }
 
 // Copies a part into a row at a place.
@@ -121,7 +121,7 @@ fn put_part(row: &mut [u8], at: usize, part: &[u8])
 // Whether bytes of at least the shortest record's length are laid out as a record of the suite.
 #[tactic(auto, unfolding(crate::specs::Records::laid_out))]
 fn is_laid_out(suite: Suite, bytes: &[u8]) -> bool
-    requires { least_length ≤ length bytes.now }
+    requires { min_record ≤ length bytes.now }
     ensures { result ≡ laid_out suite bytes.now }
 {
     let name_at = SECRET_AT + suite.secret_length();
@@ -129,7 +129,7 @@ fn is_laid_out(suite: Suite, bytes: &[u8]) -> bool
         return false;
     }
     let name_length = bytes[name_at] as usize;
-    name_length <= NAME_LIMIT
+    name_length <= MAX_NAME
         && lifetime_fits(get(bytes, LIFETIME_AT))
         && bytes.len() == name_at + 1 + name_length
 }
@@ -139,7 +139,7 @@ fn is_laid_out(suite: Suite, bytes: &[u8]) -> bool
 fn record_suite(bytes: &[u8]) -> Option<Suite>
     ensures { result ≡ record_suite bytes.now }
 {
-    if bytes.len() < RECORD_LEAST {
+    if bytes.len() < MIN_RECORD {
         return None;
     }
     let number: u16 = get(bytes, 0);
@@ -172,7 +172,7 @@ fn state_of(suite: Suite, bytes: &[u8]) -> SessionState
         age_add: get(bytes, AGE_ADD_AT),
         early_data_limit: get(bytes, EARLY_DATA_AT),
         secret: [0; SECRET_LENGTH],
-        name: [0; NAME_LIMIT],
+        name: [0; MAX_NAME],
         name_length: bytes[name_at],
     };
     put_part(&mut state.secret, 0, secret);
@@ -200,7 +200,7 @@ impl SessionState {
         ensures decides { Decides result (Fits self.now) }
     {
         let n = self.name_length as usize;
-        n <= NAME_LIMIT && lifetime_fits(self.lifetime) && is_blank(&self.name[n..])
+        n <= MAX_NAME && lifetime_fits(self.lifetime) && is_blank(&self.name[n..])
     }
 
     /// Writes the record from the buffer's start, with zeros after it, and answers its length.
@@ -212,7 +212,7 @@ impl SessionState {
         ensures back { IfOk result (λ n. decode_of (take n out.new) ≡ Ok self.now) }
     {
         clear(out);
-        if out.len() < RECORD_LIMIT {
+        if out.len() < MAX_RECORD {
             return Err(Refusal::ShortBuffer);
         }
         if !self.fits() {
@@ -234,11 +234,11 @@ impl SessionState {
 
 /// The lengths of a record and of its parts, and the longest lifetime.
 pub fn limits_stand()
-    ensures least { RECORD_LEAST ≡ least_length }
-    ensures most { RECORD_LIMIT ≡ most_length }
-    ensures secret { SECRET_LENGTH ≡ secret_limit }
-    ensures name { NAME_LIMIT ≡ name_limit }
-    ensures lifetime { LIFETIME_LIMIT ≡ lifetime_limit }
+    ensures least { MIN_RECORD ≡ min_record }
+    ensures most { MAX_RECORD ≡ max_record }
+    ensures secret { SECRET_LENGTH ≡ max_secret }
+    ensures name { MAX_NAME ≡ max_name }
+    ensures lifetime { MAX_LIFETIME ≡ max_lifetime }
 {}
 
 /// States and records determine each other, and the lengths of a record.

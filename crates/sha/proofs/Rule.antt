@@ -1,5 +1,6 @@
 -- The rule of the two tables, tested at all entries along the primes.
-use Rattle.std.proofs.Common.{◌≡◌, ℕ, zero, suc, ◌+◌, ◌*◌, ◌^◌, ◌<◌, Bool, true, false, T, eqb, ltb, leb, List, [], ◌∷◌, length, get_or, refl, le_of_suc-le-suc, not-suc-le-zero, eqb→eq, ltb→lt, leb→le}
+use Rattle.std.proofs.Common.{◌≡◌, ℕ, zero, suc, ◌+◌, ◌*◌, ◌^◌, ◌<◌, Bool, true, ◌&&◌, eqb, ltb, leb, List, [], ◌∷◌, length, get_or, refl, le_of_suc-le-suc, not-suc-le-zero}
+use Rattle.std.proofs.lemmas.Bool.{and_parts, eqb-true, leb-true, ltb-true}
 use Rattle.std.proofs.lemmas.List.FromFn.{fill_by_all}
 use Rattle.sha.specs.Roots.{undivided, is_prime, prime_from, prime_after, prime_of, root_from, fraction, Rooted}
 use Rattle.sha.specs.Digest.{round_word, start_word, start_words}
@@ -10,74 +11,47 @@ round_table = 0x428a2f98 ∷ 0x71374491 ∷ 0xb5c0fbcf ∷ 0xe9b5dba5 ∷ 0x3956
 abbrev pub start_table : List ℕ
 start_table = 0x6a09e667 ∷ 0xbb67ae85 ∷ 0x3c6ef372 ∷ 0xa54ff53a ∷ 0x510e527f ∷ 0x9b05688c ∷ 0x1f83d9ab ∷ 0x5be0cd19 ∷ []
 
-both : Bool → Bool → Bool
-both true b = b
-both false b = false
-
-both_left : (a b : Bool) → T (both a b) → T a
-unfolding both
-both_left true b t = tt
-both_left false b t = t
-
-both_right : (a b : Bool) → T (both a b) → T b
-unfolding both
-both_right true b t = t
-both_right false b t = absurd t
-
 root : ℕ → ℕ → ℕ
 root e q = root_from e (q * 2 ^ (32 * e)) 0 36
 
--- x is the fraction of the e-th root of q, and that root is a whole root
-test : ℕ → ℕ → ℕ → Bool
-test e q x = both (eqb x (fraction e q)) (both (leb (root e q ^ e) (q * 2 ^ (32 * e))) (ltb (q * 2 ^ (32 * e)) ((root e q + 1) ^ e)))
-
--- the entries pass at the primes from p on
+-- each x is the fraction of the e-th root of its prime, from p on, and that root is a whole root
 walk : ℕ → ℕ → List ℕ → Bool
 walk e p [] = true
-walk e p (x ∷ xs) = both (test e p x) (walk e (prime_from (p + 1) p) xs)
+walk e p (x ∷ xs) =
+    (eqb x (fraction e p) && (leb (root e p ^ e) (p * 2 ^ (32 * e)) && ltb (p * 2 ^ (32 * e)) ((root e p + 1) ^ e))) && walk e (prime_from (p + 1) p) xs
 
-from : (e p : ℕ) (xs : List ℕ) → T (walk e p xs) → (k : ℕ) → k < length xs → T (test e (prime_after p k) (get_or xs k 0))
-unfolding walk prime_after
+from : (e p : ℕ) (xs : List ℕ) → walk e p xs ≡ true → (k : ℕ) → k < length xs → (get_or xs k 0 ≡ fraction e (prime_after p k)) × Rooted e (prime_after p k) (get_or xs k 0)
+unfolding walk prime_after root fraction
 from e p [] t k h = absurd (not-suc-le-zero h)
-from e p (x ∷ xs) t zero h = both_left (test e p x) (walk e (prime_from (p + 1) p) xs) t
-from e p (x ∷ xs) t (suc k) h =
-    from e (prime_from (p + 1) p) xs (both_right (test e p x) (walk e (prime_from (p + 1) p) xs) t) k (le_of_suc-le-suc h)
+from e p (x ∷ xs) t zero h =
+    let a = and_parts _ _ (and_parts _ _ t).0 in
+    let b = and_parts _ _ a.1 in
+    (eqb-true _ _ a.0, record { root = root e p; low = leb-true _ _ b.0; high = ltb-true _ _ b.1; is = eqb-true _ _ a.0 })
+from e p (x ∷ xs) t (suc k) h = from e (prime_from (p + 1) p) xs (and_parts _ _ t).1 k (le_of_suc-le-suc h)
 
 -- the computed tests
-all_rounds : T (walk 3 2 round_table)
-unfolding both walk test root fraction root_from prime_from is_prime undivided
-all_rounds = tt
+all_rounds : walk 3 2 round_table ≡ true
+unfolding walk root fraction root_from prime_from is_prime undivided
+all_rounds = refl
 
-all_starts : T (walk 2 2 start_table)
-unfolding both walk test root fraction root_from prime_from is_prime undivided
-all_starts = tt
-
-rooted_test : (e q x : ℕ) → T (test e q x) → Rooted e q x
-unfolding test root fraction
-rooted_test e q x t =
-    let u = both_right _ _ t in
-    record { root = root e q; low = leb→le _ _ (both_left _ _ u); high = ltb→lt _ _ (both_right _ _ u); is = eqb→eq _ _ (both_left _ _ t) }
-
-equal_test : (e q x : ℕ) → T (test e q x) → x ≡ fraction e q
-unfolding test
-equal_test e q x t = eqb→eq x (fraction e q) (both_left _ _ t)
+all_starts : walk 2 2 start_table ≡ true
+unfolding walk root fraction root_from prime_from is_prime undivided
+all_starts = refl
 
 pub round_equal : (k : ℕ) → k < 64 → get_or round_table k 0 ≡ round_word k
 unfolding round_word prime_of
-round_equal k h = equal_test 3 (prime_after 2 k) (get_or round_table k 0) (from 3 2 round_table all_rounds k h)
+round_equal k h = (from 3 2 round_table all_rounds k h).0
 
 pub round_rooted : (k : ℕ) → k < 64 → Rooted 3 (prime_of k) (get_or round_table k 0)
 unfolding prime_of
-round_rooted k h = rooted_test 3 (prime_after 2 k) (get_or round_table k 0) (from 3 2 round_table all_rounds k h)
-
-start_equal : (k : ℕ) → k < 8 → get_or start_table k 0 ≡ start_word k
-unfolding start_word prime_of
-start_equal k h = equal_test 2 (prime_after 2 k) (get_or start_table k 0) (from 2 2 start_table all_starts k h)
+round_rooted k h = (from 3 2 round_table all_rounds k h).1
 
 pub start_rooted : (k : ℕ) → k < 8 → Rooted 2 (prime_of k) (start_word k)
-unfolding prime_of
-start_rooted k h = rw (← start_equal k h) (rooted_test 2 (prime_after 2 k) (get_or start_table k 0) (from 2 2 start_table all_starts k h))
+unfolding start_word prime_of
+start_rooted k h =
+    let entry = from 2 2 start_table all_starts k h in
+    rw (← entry.0) entry.1
 
 pub start_table_is : start_table ≡ start_words
-unfolding start_words
-start_table_is = fill_by_all start_word start_table 8 0 refl start_equal
+unfolding start_words start_word prime_of
+start_table_is = fill_by_all _ start_table 8 0 refl (λ k h. (from 2 2 start_table all_starts k h).0)

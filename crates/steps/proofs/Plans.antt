@@ -6,7 +6,7 @@ use Rattle.device.specs.Effects.{Slots, State}
 use Rattle.device.proofs.Writes.{length_written}
 use Rattle.fault.specs.declared.Halt.{Halt}
 use Rattle.steps.specs.OneStep.{Write, Stepped}
-use Rattle.steps.specs.Writes.{stood, CutShort, Ran, through, failed}
+use Rattle.steps.specs.Writes.{stood, CutShort, Ran, through, failed, Wrote}
 
 pub stood_append : (s : Slots) (ws vs : List Write) → stood s (ws ++ vs) ≡ stood (stood s ws) vs
 stood_append = fold-append (λ s w. set s w.slot w.bytes)
@@ -101,3 +101,15 @@ ran_next {s = s} {t = t} w a h d =
 -- the same writes under another name
 pub ran_as : {s : Slots} {t : State} {ws vs : List Write} {r : Result (Unit {0}) Halt} → ws ≡ vs → Ran s ws r t → Ran s vs r t
 ran_as {s = s} {t = t} {r = r} e a = subst (λ x. Ran s x r t) e a
+
+-- as one word
+pub ran_wrote : {s : Slots} {ws : List Write} {r : Result (Unit {0}) Halt} {t : State} → Wrote s ws r t → Ran s ws r t
+unfolding Wrote
+ran_wrote a = a
+
+pub wrote_ran : {s : Slots} {ws : List Write} {r : Result (Unit {0}) Halt} {t : State} → Ran s ws r t → Wrote s ws r t
+unfolding Wrote
+wrote_ran a = a
+
+pub wrote_none : (s : Slots) (t : State) → t.slots ≡ s → t.power ≡ true → Wrote s [] (Ok tt) t
+wrote_none s t e o = wrote_ran (ran_none s t e o)

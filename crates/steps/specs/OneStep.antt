@@ -9,6 +9,10 @@ use Rattle.fault.specs.declared.Step.TheVariants.{Read, Restart}
 use Rattle.fault.specs.declared.Halt.{Halt}
 use Rattle.fault.specs.Faults.{placed, unpowered}
 
+-- a device with n slots and its power on
+abbrev pub Powered : State → ℕ → Type 0
+Powered s n = (length s.slots ≡ n) × (s.power ≡ true)
+
 -- what a device's fault stops a call with, at a slot in a step
 abbrev pub halt_of : DeviceFault → ℕ → Step → Halt
 halt_of NoSuchSlot i a = placed refusals.NoSuchSlot i

@@ -25,3 +25,7 @@ pub record CutShort (s : Slots) (ws : List Write) (m : ℕ) (h : Halt) (t : Slot
 pub data Ran (s : Slots) (ws : List Write) (r : Result (Unit {0}) Halt) (t : State) : Type 0 where
   through : r ≡ Ok tt → t.slots ≡ stood s ws → t.power ≡ true → Ran s ws r t
   failed : (m : ℕ) (h : Halt) → r ≡ Err h → CutShort s ws m h t.slots → t.power ≡ false → Ran s ws r t
+
+-- the same as one word, which the check does not open: so it finds lemmas about writes by it
+unfoldable pub Wrote : Slots → List Write → Result (Unit {0}) Halt → State → Type 0
+Wrote s ws r t = Ran s ws r t

@@ -14,12 +14,12 @@ use files::{covering, led_to, show_file};
 use generators::ChaChaGenerator;
 use image::ByteImage;
 use journal::Journal;
-use medium::Cut;
 use octets::same_bytes;
+use row::Cut;
 use samples::{Bytes, KEY_NAME, ROOM, ROOT, add, record_of};
 use server::{Cold, Running};
 use serving::{Held, device_of, opened, split};
-use session::NAME_LIMIT;
+use session::MAX_NAME;
 use tree::LEVELS;
 
 // The bytes of the image: the journal's mark and copy, and its slots.
@@ -100,7 +100,7 @@ fn welcome(desk: &mut Desk, k: usize, state: &[u8], calls: u32) {
         return;
     };
     add(&mut desk.given[k % MANAGERS.len()].states, 1);
-    let length = usize::from(opened.name_length).min(NAME_LIMIT);
+    let length = usize::from(opened.name_length).min(MAX_NAME);
     let name = str::from_utf8(&opened.name[..length]).unwrap_or("");
     let own = record_of(&state_of(k)).is_some_and(|record| same_bytes(record.part(), state));
     println!(desk.show;

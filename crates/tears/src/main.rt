@@ -6,7 +6,7 @@ mod rows;
 mod stand;
 
 use beds::Medium;
-use medium::Cut;
+use row::Cut;
 use samples::{Show, add};
 use stand::{Found, Stand};
 

@@ -3,7 +3,7 @@ use crate::rows::{NEW, WRITTEN, before, laid_out};
 use beds::{Medium, slot_at};
 use device::{ReadSlots, SLOT_SIZE, TearSlots, WriteSlots};
 use journal::Journal;
-use medium::Cut;
+use row::Cut;
 use samples::{JOURNAL_ROW, all_are};
 
 #[derive(Clone, Copy)]

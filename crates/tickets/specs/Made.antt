@@ -1,5 +1,5 @@
 -- What a key worked out apart from a server is, and a ticket sealed under a key.
-use Rattle.std.specs.Prelude.{◌≡◌, ℕ, ◌+◌, List, ◌++◌, length, Option, Some, None, Result, Ok, Err}
+use Rattle.std.specs.Prelude.{◌≡◌, ℕ, ◌+◌, ◌-◌, List, ◌++◌, length, Option, Some, None, Result, Ok, Err}
 use Rattle.octets.specs.Buffers.{zeros, filled}
 use Rattle.refusal.specs.declared.Refusal.{Refusal}
 use Rattle.refusal.specs.declared.Refusal.TheVariants.{ShortBuffer}
@@ -7,13 +7,13 @@ use Rattle.tree.specs.declared.Node.{Node}
 use Rattle.tree.specs.Values.{Expansion}
 use Rattle.generator.specs.Bytes.{value_length}
 use Rattle.generator.specs.Descent.{Descent}
-use Rattle.sealer.specs.Limits.{heading_length}
+use Rattle.ticket.specs.Limits.{heading_length}
 use Rattle.sealer.specs.Outcomes.{Sealable}
 use Rattle.samples.specs.declared.Bytes.{Bytes}
 
--- the bytes that a row has for what is sealed
+-- the bytes that a row of 160 has for what is sealed
 abbrev pub sealed_room : ℕ
-sealed_room = 140
+sealed_room = 160 - heading_length
 
 -- the key of a number with the generator calls made, from a node with its value; none where the node does not cover the number
 abbrev pub KeyFrom : Expansion → ℕ → Node → List ℕ → ℕ → Option (List ℕ × ℕ) → Type 0

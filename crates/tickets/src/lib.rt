@@ -2,13 +2,14 @@
 #![tactic(auto)]
 
 ghost use Rattle.tree.specs.Nodes.{tree_levels};
-ghost use Rattle.sealer.specs.Headings.{heading_of};
+ghost use Rattle.ticket.specs.Parts.{heading_of};
 ghost use Rattle.tickets.specs.Made.{KeyFrom, TicketOf};
 
 use generator::{Generator, Value, Values, descend};
 use refusal::Refusal;
 use samples::{Bytes, ROOM};
-use sealer::{HEADING, NAME, Sealer, heading};
+use sealer::Sealer;
+use ticket::{HEADING, NAME, heading};
 use tree::{LEVELS, Node};
 
 /// The root's node.

@@ -1,7 +1,7 @@
 //! What the four walks start from.
-use sealer::NAME;
 use session::{SECRET_LENGTH, SessionState, Suite};
 use std::array;
+use ticket::NAME;
 
 /// A session, with the root value, the key name and the ticket number of its walk. A row of bytes is told by the first byte and
 /// by what each adds to the one before.

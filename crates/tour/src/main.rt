@@ -10,8 +10,9 @@ use generator::Generator;
 use generators::{ChaChaGenerator, ShaGenerator};
 use hmacseal::HmacSealer;
 use samples::{Bytes, ROOM, Show, record_of};
-use sealer::{HEADING, Sealer};
+use sealer::Sealer;
 use std::fmt;
+use ticket::HEADING;
 use tickets::{TOP, key_from, ticket_of};
 
 // Bytes as lower-case hexadecimal digits.

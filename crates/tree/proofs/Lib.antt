@@ -11,5 +11,6 @@ pub mod Descent
 pub mod Computed
 pub mod Keys
 pub mod Shapes
+pub mod Powers
 pub mod Turns
 pub mod Sift

@@ -1,9 +1,10 @@
 -- Which depths and first numbers make a node, as the code tests it.
-use Rattle.std.proofs.Common.{◌≡◌, ℕ, suc, ◌+◌, ◌-◌, ◌*◌, ◌/◌, ◌%◌, ◌^◌, ◌<◌, ◌≤◌, sym, refl, ap, ◌∙◌, subst, div-add-mod', arith}
+use Rattle.std.proofs.Common.{◌≡◌, ℕ, suc, ◌+◌, ◌-◌, ◌*◌, ◌/◌, ◌%◌, ◌^◌, ◌<◌, ◌≤◌, true, sym, refl, ap, ◌∙◌, subst, div-add-mod', arith}
 use Rattle.std.proofs.lemmas.Nat.{one_shl}
+use Rattle.std.proofs.lemmas.Bool.{le-leb, lt-ltb, eq-eqb}
 use native.Mathlib.Nat.{mul-mod_left}
 use Rattle.tree.specs.declared.Node.{Node}
-use Rattle.tree.specs.Nodes.{node_at, width_of, IsNode, Twins}
+use Rattle.tree.specs.Nodes.{node_at, width_of, IsNode, is_node, Twins}
 use Rattle.tree.proofs.Members.{depth, first, range}
 use Rattle.tree.proofs.Places.{under_of_node}
 use Rattle.tree.proofs.Choice.{node_eq}
@@ -15,12 +16,21 @@ shifted k l = one_shl k 32 (omega arith)
 pub multiple : (p w : ℕ) → p % w ≡ 0 → p ≡ p / w * w
 multiple p w z = grind (arith, div-add-mod')
 
-pub node_from : (d w : ℕ) (x : Node) → depth x ≤ d → w ≡ width_of d (depth x) → first x % w ≡ 0 → first x < 2 ^ d → IsNode d x
+node_from : (d w : ℕ) (x : Node) → depth x ≤ d → w ≡ width_of d (depth x) → first x % w ≡ 0 → first x < 2 ^ d → IsNode d x
 node_from d w x l q z i =
     record { shallow = l; place = first x / w; aligned = subst (λ (v : ℕ). first x ≡ first x / w * v) q (multiple (first x) w z); inside = i }
 
 pub node_to : (d w : ℕ) (x : Node) → w ≡ width_of d (depth x) → IsNode d x → first x % w ≡ 0
 node_to d w x q i = grind (arith, mul-mod_left)
+
+-- the test finds the nodes, and no other
+pub tested_node : (d : ℕ) (x : Node) → is_node d x.depth x.first ≡ true → IsNode d x
+tested_node d x t = grind (arith, node_from)
+
+pub node_tested : (d : ℕ) (x : Node) → IsNode d x → is_node d x.depth x.first ≡ true
+node_tested d x i =
+    let r = node_to d (width_of d x.depth) x refl i in
+    rw (le-leb _ _ i.shallow, lt-ltb _ _ i.inside, eq-eqb _ _ r)
 
 -- the width halves at each level
 pub halved : (d e : ℕ) → e < d → width_of d e ≡ 2 * width_of d (suc e)

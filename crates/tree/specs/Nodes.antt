@@ -1,5 +1,5 @@
 -- The nodes of a complete binary tree whose leaves are the numbers below 2 ^ d.
-use Rattle.std.specs.Prelude.{◌≡◌, ℕ, suc, ◌+◌, ◌-◌, ◌*◌, ◌^◌, ◌<◌, ◌≤◌, ◌⊎◌}
+use Rattle.std.specs.Prelude.{◌≡◌, ℕ, suc, ◌+◌, ◌-◌, ◌*◌, ◌%◌, ◌^◌, ◌<◌, ◌≤◌, ◌⊎◌, Bool, ◌&&◌, ◌==◌, nat_le, nat_lt}
 use Rattle.tree.specs.declared.Node.{Node}
 
 -- the levels below the root of the trees in use: their numbers are those below 2 ^ 16
@@ -7,8 +7,8 @@ abbrev pub tree_levels : ℕ
 tree_levels = 16
 
 -- the code goes with trees of at most this many levels
-abbrev pub most_levels : ℕ
-most_levels = 24
+abbrev pub max_levels : ℕ
+max_levels = 24
 
 -- the node at a depth that begins at a first number
 abbrev pub node_at : ℕ → ℕ → Node
@@ -28,13 +28,17 @@ pub record IsNode (d : ℕ) (x : Node) : Type 0 where
   pub aligned : x.first ≡ place * width_of d x.depth
   pub inside : x.first < 2 ^ d
 
+-- the test of it: the tree of d levels has a node at depth e that begins at p
+abbrev pub is_node : ℕ → ℕ → ℕ → Bool
+is_node d e p = nat_le e d && (nat_lt p (2 ^ d) && p % width_of d e == 0)
+
 -- x covers the number n
 abbrev pub Covers : ℕ → Node → ℕ → Type 0
 Covers d x n = (x.first ≤ n) × (n < x.first + width_of d x.depth)
 
 -- x is a node, of a tree that the code goes with, and covers n: there is a way from x down to n
 pub record Above (d : ℕ) (x : Node) (n : ℕ) : Type 0 where
-  pub few : d ≤ most_levels
+  pub few : d ≤ max_levels
   pub is_node : IsNode d x
   pub covers : Covers d x n
 
@@ -47,7 +51,7 @@ right_of d x = node_at (suc x.depth) (x.first + width_of d (suc x.depth))
 
 -- x is a node, of a tree that the code goes with, and no leaf
 pub record HasChildren (d : ℕ) (x : Node) : Type 0 where
-  pub few : d ≤ most_levels
+  pub few : d ≤ max_levels
   pub is_node : IsNode d x
   pub inner : x.depth < d
 

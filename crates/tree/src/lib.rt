@@ -1,10 +1,10 @@
 //! The key tree: its nodes, the cover of the spent numbers, and the values.
 #![tactic(auto)]
 
-ghost use Rattle.std.specs.Prelude.{◌≡◌, ℕ, ◌+◌, ◌-◌, ◌^◌, ◌<◌, ◌≤◌, T, List, [], ◌∷◌, ◌++◌, length, take, slice_set, Some, None};
+ghost use Rattle.std.specs.Prelude.{◌≡◌, ℕ, ◌+◌, ◌-◌, ◌^◌, ◌<◌, ◌≤◌, min, T, List, [], ◌∷◌, ◌++◌, length, take, slice_set, Some, None, nat_le};
 ghost use Rattle.tree.specs.declared.Node.{Node};
 ghost use Rattle.tree.specs.Gaps.{filled_in};
-ghost use Rattle.tree.specs.Nodes.{tree_levels, most_levels, width_of, IsNode, Covers, Above, HasChildren, left_of, right_of, Twins};
+ghost use Rattle.tree.specs.Nodes.{tree_levels, max_levels, width_of, IsNode, is_node, Covers, Above, HasChildren, left_of, right_of, Twins};
 ghost use Rattle.tree.specs.Cover.{Characterised, InOrder, Exactly, AtMostOne, Exhausted, Least, SameSet, Few};
 ghost use Rattle.tree.specs.Puncture.{siblings_on, siblings_from, Listed, SiblingsAre, Punctured, PuncturedAt};
 ghost use Rattle.tree.specs.Values.{ValuesAre, Composed, KeyFrom, Agreed, PuncturedValues, KeysOf};
@@ -16,10 +16,10 @@ use std::marker::Model;
 pub const LEVELS: u8 = 16;
 
 /// The most levels that a tree may have here.
-pub const MOST_LEVELS: u8 = 24;
+pub const MAX_LEVELS: u8 = 24;
 
 /// The length of a row for the siblings on any way down.
-pub const ROW: usize = MOST_LEVELS as usize;
+pub const ROW: usize = MAX_LEVELS as usize;
 
 /// A node: how deep below the root, and the first number that it covers.
 #[derive(Clone, Copy, PartialEq, Eq)]
@@ -33,10 +33,36 @@ pub struct Node {
 #[tactic(auto, using(crate::proofs::Flanks::length_siblings))]
 pub fn sizes_stand()
     ensures levels { LEVELS ≡ tree_levels }
-    ensures most { MOST_LEVELS ≡ most_levels }
-    ensures within { LEVELS ≤ MOST_LEVELS }
-    ensures row { (d n : ℕ) (x : Node) → d ≤ MOST_LEVELS → length (siblings_from d x n) ≤ ROW }
+    ensures most { MAX_LEVELS ≡ max_levels }
+    ensures within { LEVELS ≤ MAX_LEVELS }
+    ensures row { (d n : ℕ) (x : Node) → d ≤ MAX_LEVELS → length (siblings_from d x n) ≤ ROW }
 {}
+
+/// Whether a tree of `levels` levels has so many numbers. Any number of levels will do.
+#[tactic(auto, using(crate::proofs::Powers::whole_leb))]
+pub fn has_numbers(levels: u8, count: u32) -> bool
+    ensures { result ≡ nat_le count (2 ^ levels) }
+{
+    u64::from(count) <= power(levels)
+}
+
+/// Whether a tree of `levels` levels has a node of this depth that begins at this number. Any number of levels will do.
+#[tactic(auto, using(crate::proofs::Powers::whole_ltb, crate::proofs::Powers::rest_is))]
+pub fn has_node(levels: u8, depth: u8, first: u32) -> bool
+    ensures { result ≡ is_node levels depth first }
+{
+    depth <= levels
+        && u64::from(first) < power(levels)
+        && u64::from(first) % power(levels - depth) == 0
+}
+
+// How many numbers a tree of `levels` levels has, but no more than 2^32: a number has 32 bits, and tells apart no greater powers.
+#[tactic(auto, using(crate::proofs::Powers::shifted_least))]
+fn power(levels: u8) -> u64
+    ensures { result ≡ 2 ^ min levels 32 }
+{
+    1 << levels.min(32)
+}
 
 // Each method takes the number of levels of the tree that the node is to stand in. It stays a plain number: a type for
 // at most 24 levels would have callers show that bound where now any number will do.
@@ -44,31 +70,28 @@ impl Node {
     /// How many numbers the node covers; 0 where the tree has no such depth.
     // 0 stays, no `Option`: it is the count of the numbers covered there, and callers add it to a first number as it is.
     pub fn width(&self, height: u8) -> u32
-        ensures within { height ≤ most_levels → self.now.depth ≤ height → result ≡ width_of height self.now.depth }
-        ensures without { (height ≤ most_levels → self.now.depth ≤ height → ⊥) → result ≡ 0 }
+        ensures within { height ≤ max_levels → self.now.depth ≤ height → result ≡ width_of height self.now.depth }
+        ensures without { (height ≤ max_levels → self.now.depth ≤ height → ⊥) → result ≡ 0 }
     {
-        if height > MOST_LEVELS || self.depth > height {
+        if height > MAX_LEVELS || self.depth > height {
             return 0;
         }
         1 << (height - self.depth)
     }
 
     /// Whether this is a node of the tree.
-    #[tactic(auto, using(crate::proofs::Shapes::node_from, crate::proofs::Shapes::node_to, crate::proofs::Shapes::shifted))]
+    #[tactic(auto, using(crate::proofs::Shapes::tested_node, crate::proofs::Shapes::node_tested))]
     pub fn is_node(&self, height: u8) -> bool
-        ensures only { T result → (height ≤ most_levels) × IsNode height self.now }
-        ensures all { height ≤ most_levels → IsNode height self.now → T result }
+        ensures only { T result → (height ≤ max_levels) × IsNode height self.now }
+        ensures all { height ≤ max_levels → IsNode height self.now → T result }
     {
-        if height > MOST_LEVELS || self.depth > height {
-            return false;
-        }
-        self.first % self.width(height) == 0 && self.first < 1 << height
+        height <= MAX_LEVELS && has_node(height, self.depth, self.first)
     }
 
     /// Whether this is a node of the tree and covers `n`.
     pub fn covers(&self, height: u8, n: u32) -> bool
-        ensures only { T result → (height ≤ most_levels) × IsNode height self.now × Covers height self.now n }
-        ensures all { height ≤ most_levels → IsNode height self.now → Covers height self.now n → T result }
+        ensures only { T result → (height ≤ max_levels) × IsNode height self.now × Covers height self.now n }
+        ensures all { height ≤ max_levels → IsNode height self.now → Covers height self.now n → T result }
     {
         self.is_node(height) && self.first <= n && n - self.first < self.width(height)
     }
@@ -110,8 +133,8 @@ impl Node {
 
     /// Whether this and `next` are the left and the right child of one node of the tree.
     pub fn has_sibling(&self, height: u8, next: &Node) -> bool
-        ensures only { T result → (height ≤ most_levels) × Twins height self.now next.now }
-        ensures all { height ≤ most_levels → Twins height self.now next.now → T result }
+        ensures only { T result → (height ≤ max_levels) × Twins height self.now next.now }
+        ensures all { height ≤ max_levels → Twins height self.now next.now → T result }
     {
         if self.depth == 0 || self.depth != next.depth {
             return false;
@@ -212,7 +235,7 @@ impl Model for SiblingList {
 
     ghost view = { λ s. take s.count s.row };
 
-    ghost invariant = { λ s. s.count ≤ most_levels };
+    ghost invariant = { λ s. s.count ≤ max_levels };
 }
 
 impl SiblingList {

@@ -3,9 +3,9 @@ use Rattle.std.proofs.lemmas.Result.{err_from_is_err_and}
 use Rattle.std.proofs.lemmas.Bool.{le-ltb}
 use Rattle.octets.specs.Buffers.{zeros}
 use Rattle.marks.specs.Rows.{room_of}
-use Rattle.chain.specs.Reading.{walk}
+use Rattle.chain.specs.Reading.{walk, chain_of}
 use Rattle.chain.specs.Listing.{marked_all}
-use Rattle.chain.specs.Outcome.{Reading.declined, reading_of, chain_of, answer_of, marks_of}
+use Rattle.chain.specs.Outcome.{reading_of, answer_of, marks_of}
 use Rattle.chain.proofs.Judging.{head_err, head_ok, asked_is, marks_kept}
 use Rattle.chain.proofs.read_marking.Goals as goal
 use Rattle.chain.proofs.read_marking.Goals.{then-is_err, else-is_err}
@@ -20,7 +20,7 @@ returns-in_err-head g c =
     let p = err_from_is_err_and c.from_residual.result c.from_residual.ensures.1 in
     let h = c.in_err-head.field-0.0 in
     let halt : p.0 ≡ h = p.2 in
-    let e : rd ≡ declined h = head_err 16 c.args.numbers m s h long c.in_err-head.ensures in
+    let e : rd ≡ Err h = head_err 16 c.args.numbers m s h long c.in_err-head.ensures in
     record {
       is = p.1 ∙ ap Err halt ∙ sym (ap (answer_of 16 c.args.asked) e);
       marks = c.clear.ensures ∙ sym (ap (marks_of m) e);

@@ -1,6 +1,6 @@
 use Rattle.std.proofs.Common.{sym, ◌∙◌}
 use Rattle.std.proofs.lemmas.Result.{err_from_is_err_and}
-use Rattle.rules.specs.Kits.{kit_of}
+use Rattle.calls.specs.Kits.{kit_of}
 use Rattle.issuing.proofs.Issued.{stopped, not_a_record, read_stops, exhausted, covered, may, ends}
 use Rattle.issuing.proofs.issue_into.Goals as goal
 

@@ -1,7 +1,7 @@
 use Rattle.std.proofs.Common.{◌≡◌, ℕ, List, length, sym, ap, ◌∙◌, arith}
 use Rattle.octets.specs.Buffers.{zeros}
-use Rattle.rules.specs.Calls.{kept}
-use Rattle.rules.proofs.Kept.{kept_err, kept_ok}
+use Rattle.calls.specs.Calls.{kept}
+use Rattle.calls.proofs.Kept.{kept_err, kept_ok}
 use Rattle.issuing.proofs.issue_on.Goals as goal
 use Rattle.issuing.proofs.issue_on.Goals.{then-is_err, else-is_err}
 

@@ -1,7 +1,7 @@
 use Rattle.std.proofs.Common.{Some, ap, ◌∙◌}
 use Rattle.std.proofs.lemmas.Result.{err_from_is_err_and}
 use Rattle.tree.specs.Nodes.{tree_levels}
-use Rattle.rules.specs.Kits.{kit_of}
+use Rattle.calls.specs.Kits.{kit_of}
 use Rattle.redeeming.specs.Steps.{asked_by}
 use Rattle.redeeming.proofs.Checks.{is_of, survey_err, check_err, check_ok}
 use Rattle.redeeming.proofs.read_for.Goals as goal

@@ -1,5 +1,5 @@
 use Rattle.std.proofs.Common.{◌≡◌, length, arith}
-use Rattle.rules.proofs.Kits.{lawful_by}
+use Rattle.calls.proofs.Kits.{lawful_by}
 use Rattle.server.proofs.Goes.{make_answered}
 use Rattle.server.proofs.Cold.make.Goals as goal
 

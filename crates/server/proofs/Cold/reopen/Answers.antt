@@ -1,4 +1,4 @@
-use Rattle.rules.proofs.Kits.{lawful_by}
+use Rattle.calls.proofs.Kits.{lawful_by}
 use Rattle.server.proofs.Goes.{reopen_answered}
 use Rattle.server.proofs.Cold.reopen.Goals as goal
 

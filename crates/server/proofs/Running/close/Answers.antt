@@ -1,4 +1,4 @@
-use Rattle.rules.proofs.Kits.{lawful_by}
+use Rattle.calls.proofs.Kits.{lawful_by}
 use Rattle.server.proofs.Goes.{closes}
 use Rattle.server.proofs.Running.close.Goals as goal
 

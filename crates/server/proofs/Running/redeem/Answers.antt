@@ -1,4 +1,4 @@
-use Rattle.rules.proofs.Kits.{lawful_by}
+use Rattle.calls.proofs.Kits.{lawful_by}
 use Rattle.server.proofs.Goes.{redeem_answered}
 use Rattle.server.proofs.Running.redeem.Goals as goal
 

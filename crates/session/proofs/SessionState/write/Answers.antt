@@ -1,7 +1,7 @@
 use Rattle.std.proofs.Common.{◌≡◌, ℕ, ◌+◌, ◌-◌, ◌≤◌, true, length, sym, refl, ap, ◌∙◌, arith}
 use Rattle.std.proofs.lemmas.List.{length-replicate}
 use Rattle.octets.specs.Buffers.{filled}
-use Rattle.session.specs.Limits.{most_length, name_at}
+use Rattle.session.specs.Limits.{max_record, name_at}
 use Rattle.session.specs.Records.{Typed, Fits, encode_of, fields_fit}
 use Rattle.session.proofs.Written.{filled_parts, answer, buffer, reads_back}
 use Rattle.session.proofs.SessionState.write.Goals as goal
@@ -11,7 +11,7 @@ returns c =
     let s = c.args.self.now in
     let n : ℕ = length c.args.out.now in
     let l : length c.clear.new.b ≡ n = ap length c.clear.ensures ∙ length-replicate {A = ℕ} n 0 in
-    let room : most_length ≤ n = omega arith in
+    let room : max_record ≤ n = omega arith in
     let t : Typed s = record { issued_at = omega arith; lifetime = omega arith; age_add = omega arith; early_data_limit = omega arith; secret = omega arith; name = omega arith } in
     let fit : fields_fit s ≡ true = sym c.if-not-fits.ensures.value in
     let f : Fits s = c.if-not-fits.ensures.decides.0 refl in

@@ -1,0 +1,6 @@
+pub mod Counting
+pub mod Held
+pub mod Kept
+pub mod Kits
+pub mod Readings
+pub mod Same
