@@ -3,13 +3,13 @@
 use crate::scene::{Down, MARKS, NUMBERS, Story, Tickets, Up, redeem, reopen};
 use beds::slot_at;
 use chachaseal::ChaChaSealer;
-use chain::Survey;
-use device::{ReadSlots, WriteSlots};
-use fault::Call;
+use device::{ReadSlots, SLOT_SIZE, WriteSlots};
+use fault::{Call, Halt};
 use generators::ChaChaGenerator;
+use looking::{Look, Records, look_on};
 use samples::{add, all_are};
 use server::Cold;
-use serving::{PAIR, Records, device_of, survey};
+use serving::{PAIR, device_of};
 
 // The levels of the tree, and how many numbers it has.
 const LEVELS: u8 = 16;
@@ -44,11 +44,17 @@ fn widest_at(first: u32, numbers: &Tickets) -> (u8, u32) {
     (depth, LEAVES >> depth.min(LEVELS))
 }
 
+// Looks at the file on a device.
+fn looked<D: ReadSlots>(device: &D) -> Result<Look, Halt> {
+    look_on(device, PAIR, &mut [0; MARKS], &mut [0; SLOT_SIZE])
+}
+
 // Whether the records from a slot on are the cover of the spent numbers, in order.
-fn is_cover<D: ReadSlots>(device: &D, survey: &Survey, numbers: &Tickets) -> bool {
-    let mut next = survey.head.first;
+fn is_cover<D: ReadSlots>(device: &D, look: &Look, numbers: &Tickets) -> bool {
+    let mut next = look.head.first;
     let mut from = 0;
-    for (_, record) in Records::new(device, next, survey.length) {
+    let mut slot = [0; SLOT_SIZE];
+    for (_, record) in Records::new(device, next, look.records, &mut slot) {
         from = unspent_from(from, numbers);
         let (depth, width) = widest_at(from, numbers);
         match record {
@@ -71,8 +77,8 @@ fn used<D: ReadSlots>(device: &D) -> usize {
 
 // Whether the chain is the cover of the spent numbers, and everything off it is zero.
 fn is_clean<D: ReadSlots>(device: &D, numbers: &Tickets) -> bool {
-    survey::<MARKS, _>(device, PAIR, None).is_ok_and(|survey| {
-        is_cover(device, &survey, numbers) && used(device) == survey.length as usize
+    looked(device).is_ok_and(|look| {
+        is_cover(device, &look, numbers) && used(device) == look.records as usize
     })
 }
 
@@ -98,9 +104,9 @@ fn settle<D: ReadSlots>(device: &D, story: &mut Story) {
 
 // Whether the head counts the tickets given, or one more where an issue was cut.
 fn is_counted<D: ReadSlots>(device: &D, story: &Story) -> bool {
-    survey::<MARKS, _>(device, PAIR, None).is_ok_and(|survey| {
+    looked(device).is_ok_and(|look| {
         let given = story.given();
-        let issued = survey.head.issued as usize;
+        let issued = look.head.issued as usize;
         let one_more = issued.checked_sub(1) == Some(given);
         issued == given || (one_more && story.cut == Some(Call::Issue))
     })

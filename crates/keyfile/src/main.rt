@@ -9,18 +9,19 @@ use anyhow::Context;
 use beds::slot_at;
 use cases::DAMAGED;
 use chain::{Survey, read_file};
-use device::{ReadSlots, WriteSlots};
+use device::{ReadSlots, SLOT_SIZE, WriteSlots};
 use fault::Halt;
 use generator::VALUE_SIZE;
 use generators::ChaChaGenerator;
 use lay::{FILE, SLOTS, SPENT, lay_out};
 use layout::{Numbers, copy_value};
+use looking::{Look, Records, look_on};
 use memory::Memory;
 use octets::same_bytes;
 use refusal::Refusal;
 use row::Cut;
 use samples::{ROOT, Show, all_are, change};
-use serving::{PAIR, Records, survey};
+use serving::{PAIR, survey};
 use tickets::{TOP, key_from};
 use tree::Node;
 
@@ -32,18 +33,19 @@ fn value_at<D: ReadSlots>(device: &D, slot: u16) -> Option<[u8; 32]> {
     Some(value)
 }
 
-fn show_head(show: &mut Show, survey: &Survey) {
-    let head = survey.head;
+fn show_head(show: &mut Show, look: &Look) {
+    let head = look.head;
     println!(show;
         "head: first index {}, {} issued, generator {}, sealer {}",
         head.first, head.issued, head.numbers.generator, head.numbers.sealer
     );
-    println!(show; "chain: {} records", survey.length);
+    println!(show; "chain: {} records", look.records);
 }
 
 // Shows the records of the chain, each with its slot.
-fn show_chain<D: ReadSlots>(show: &mut Show, device: &D, survey: &Survey) {
-    for (slot, record) in Records::new(device, survey.head.first, survey.length) {
+fn show_chain<D: ReadSlots>(show: &mut Show, device: &D, look: &Look) {
+    let mut bytes = [0; SLOT_SIZE];
+    for (slot, record) in Records::new(device, look.head.first, look.records, &mut bytes) {
         let (Some(fields), Some(value)) = (record, value_at(device, slot)) else {
             show.expect(false, "a record of the chain cannot be read");
             return;
@@ -134,9 +136,9 @@ fn refused_sound(show: &mut Show, file: &[u8; FILE]) {
 
 // Shows the head, the chain and some keys.
 fn show_file<D: ReadSlots>(show: &mut Show, device: &D) -> anyhow::Result<()> {
-    if let Ok(survey) = survey::<SLOTS, _>(device, PAIR, None) {
-        show_head(show, &survey);
-        show_chain(show, device, &survey);
+    if let Ok(look) = look_on(device, PAIR, &mut [0; SLOTS], &mut [0; SLOT_SIZE]) {
+        show_head(show, &look);
+        show_chain(show, device, &look);
     }
     for n in [0, 4, SPENT, 6, 65535] {
         show_key(show, device, n)?;

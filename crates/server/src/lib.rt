@@ -8,14 +8,21 @@
 ghost use Rattle.std.specs.Prelude.{◌≡◌, length};
 ghost use Rattle.octets.specs.Buffers.{zeros};
 ghost use Rattle.scratch.specs.Clean.{Clean};
-ghost use Rattle.calls.specs.Kits.{kit_of};
+ghost use Rattle.tree.specs.Nodes.{tree_levels};
+ghost use Rattle.chain.specs.Outcome.{reading_of};
+ghost use Rattle.calls.specs.Kits.{kit_of, numbers_in};
+ghost use Rattle.looking.specs.Looks.{look_of};
+ghost use Rattle.looking.specs.Chains.{chain_from, ListsChain};
+ghost use Rattle.looking.specs.Left.{Lent, records_left};
 ghost use Rattle.server.specs.Serving.{MakeCall, IssueCall, RedeemCall, CloseCall, ReopenCall, cold_of, running_of, started_by, answered_by};
 
 mod parts;
 
-use device::WriteSlots;
-use fault::Fault;
+use calls::numbers_of;
+use device::{ReadSlots, SLOT_SIZE, WriteSlots};
+use fault::{Fault, Halt};
 use generator::{Generator, Value};
+use looking::{Look, Records, look_on};
 use refusal::Refusal;
 use scratch::Scratch;
 use sealer::Sealer;
@@ -225,5 +232,30 @@ impl<D: WriteSlots, G: Generator, S: Sealer> Running<D, G, S> {
             scratch,
         );
         self.answered(redeemed)
+    }
+}
+
+impl<D: ReadSlots, G: Generator, S: Sealer> Running<D, G, S> {
+    /// Looks at the key file: its head, and how many records and free slots it has; or the refusal of reading it. Nothing is
+    /// altered.
+    pub fn look(&self, marks: &mut [u8], scratch: &mut Scratch) -> Result<Look, Halt>
+        ensures is { result ≡ look_of (D.state self.now.device).slots (reading_of tree_levels (numbers_in (kit_of (G.meaning self.now.generator) (S.meaning self.now.sealer))) (length marks.old) (D.state self.now.device)) }
+        ensures marks { marks.new ≡ zeros (length marks.old) }
+        ensures clean { Clean scratch.new }
+    {
+        let numbers = numbers_of(&self.generator, &self.sealer);
+        let looked = look_on(&self.device, numbers, marks, &mut scratch.slot);
+        scratch.wipe();
+        looked
+    }
+
+    /// The records of the chain that a look told of, in order, each with its slot and without its value. `bytes` is lent for
+    /// key material, and zero before and after each record and at the end.
+    pub fn records<'a>(&'a self, look: &Look, bytes: &'a mut [u8; SLOT_SIZE]) -> Records<'a, D>
+        ensures is { records_left D.state result ≡ chain_from tree_levels (D.state self.now.device) look.now.head.first look.now.records }
+        ensures lent { Lent bytes.entry result }
+        ensures chain { ListsChain }
+    {
+        Records::new(&self.device, look.head.first, look.records, bytes)
     }
 }

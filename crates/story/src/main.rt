@@ -9,8 +9,8 @@ mod files;
 use chachaseal::ChaChaSealer;
 use days::{Event, FIRST_DAY, Failing, MANAGERS, SECOND_DAY, state_of};
 use desk::{Desk, SLOTS};
-use device::WriteSlots;
-use files::{covering, led_to, show_file};
+use device::{SLOT_SIZE, WriteSlots};
+use files::{covering, led_to, show_chain, show_file, show_left, show_look};
 use generators::ChaChaGenerator;
 use image::ByteImage;
 use journal::Journal;
@@ -59,10 +59,16 @@ fn reopen<'a>(desk: &mut Desk, cold: Down<'a>) -> Here<'a> {
     server
 }
 
-// Closes, shows the file, and reopens.
+// Looks at the file of the running server; then closes, shows what its free slots hold, and reopens.
 fn look<'a>(desk: &mut Desk, server: Up<'a>) -> Here<'a> {
+    let looked = server.look(&mut desk.marks, &mut desk.scratch);
+    show_look(desk, &looked);
+    if let Ok(look) = looked {
+        let mut slot = [0; SLOT_SIZE];
+        show_chain(desk, &look, server.records(&look, &mut slot));
+    }
     let device = device_of(Ok(server));
-    show_file(desk, &device, true);
+    show_left(desk, &device);
     reopen(desk, cold_on(device))
 }
 

@@ -1,0 +1,3 @@
+pub mod Looks
+pub mod Chains
+pub mod Left
