@@ -74,6 +74,7 @@ fn main(rt: HostRuntime) -> anyhow::Result<()> {
     let made = cold_on(&mut image).make(&[0x5a; 32], b"the example tree", &mut scratch);
     let answered = opened(made)?.issue(record, &mut row, &mut marks, &mut scratch);
     let (server, issued) = settled(answered, &mut marks, &mut scratch)?;
+    // no bytes where no ticket was given: a `?` here would let go of the server, which does not compile
     let ticket = &row[..issued.unwrap_or(0).min(MAX_TICKET)];
     let answered = server.redeem(ticket, &mut state, &mut marks, &mut scratch);
     let (server, first) = settled(answered, &mut marks, &mut scratch)?;
