@@ -2,15 +2,16 @@
 //! several calls begin with.
 #![tactic(auto)]
 
-ghost use Rattle.std.specs.Prelude.{◌≡◌};
+ghost use Rattle.std.specs.Prelude.{◌≡◌, length};
 ghost use Rattle.tree.specs.Nodes.{tree_levels};
 ghost use Rattle.calls.specs.Kits.{kit_of, numbers_in};
-ghost use Rattle.calls.specs.Calls.{min_slots, max_slots, Fitting, Admitted};
+ghost use Rattle.calls.specs.Calls.{min_slots, max_slots, Fitting, Admitted, kept};
 
 use device::ReadSlots;
 use fault::Halt;
 use generator::Generator;
 use layout::Numbers;
+use octets::clear;
 use refusal::Refusal;
 use sealer::Sealer;
 use tree::LEVELS;
@@ -57,4 +58,13 @@ pub fn admit<D: ReadSlots>(device: &D, least: usize, room: usize, marks: usize) 
         return Err(Halt::plain(Refusal::ShortBuffer));
     }
     slot_count(device)
+}
+
+/// The end of a call that gives bytes: where it was stopped, the buffer lent for them is cleared.
+pub fn keep(answer: &Result<(usize, u32), Halt>, out: &mut [u8])
+    ensures { out.new ≡ kept answer.now (length out.old) out.old }
+{
+    if answer.is_err() {
+        clear(out);
+    }
 }

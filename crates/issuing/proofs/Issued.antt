@@ -1,5 +1,5 @@
 -- Issuing, from what its parts tell.
-use Rattle.std.proofs.Common.{◌≡◌, ℕ, ◌-◌, ◌<◌, ◌≤◌, Bool, true, false, ltb, List, ◌∷◌, ◌++◌, length, IsSome, Some, None, Option, Ok, Err, sym, refl, ap, ◌∙◌, subst, inl, arith}
+use Rattle.std.proofs.Common.{◌≡◌, ℕ, ◌-◌, ◌<◌, ◌≤◌, true, false, ltb, List, ◌∷◌, ◌++◌, length, IsSome, Some, None, Option, Ok, Err, sym, refl, ap, ◌∙◌, subst, inl, arith}
 use Rattle.std.proofs.lemmas.Bool.{lt-ltb, le-ltb}
 use Rattle.octets.specs.Buffers.{zeros}
 use Rattle.refusal.specs.declared.Refusal.TheVariants.{NotARecord, Exhausted}
@@ -18,8 +18,8 @@ use Rattle.chain.proofs.Files.{to_sound}
 use Rattle.chain.proofs.Finds.{found_at, none_at}
 use Rattle.calls.specs.Kits.{Kit, numbers_in}
 use Rattle.ticket.specs.Limits.{max_ticket}
-use Rattle.calls.specs.Calls.{Outcome, Finished, entry_verdict, read_by, issuable, issue_verdict, issued_ticket, Issuing, Issuing.declined, Issuing.cut, Issuing.given, kept}
-use Rattle.issuing.specs.Ends.{Issuable, link_of, IssueEnds, ended, gave}
+use Rattle.calls.specs.Calls.{Outcome, Finished, entry_verdict, read_by, issuable, issue_verdict, issued_ticket, Issuing.declined, Issuing.cut, Issuing.given, kept}
+use Rattle.issuing.specs.Ends.{Issuable, link_of, IssueEnds, ended, gave, Issues}
 use Rattle.chain.proofs.Standing.{Standing, standing}
 use Rattle.calls.proofs.Readings.{Entered, entered_by, Told, read_err, read_ok}
 
@@ -29,11 +29,12 @@ some_by None f = absurd (f refl)
 
 module _ (k : Kit) (s : State) (plain : List ℕ) (room marks : ℕ) where
   -- stopped before anything is written
-  pub stopped : {h : Halt} → issue_verdict k tree_levels s plain room marks ≡ Err h → (headed : Bool) × Issuing k tree_levels s plain room marks (Err h) (zeros room) s headed
+  pub stopped : {h : Halt} → issue_verdict k tree_levels s plain room marks ≡ Err h → Issues k tree_levels s plain room marks (Err h) (zeros room) s
+  unfolding Issues
   stopped {h = h} e = (false, declined h e refl (record { state = refl; zero = refl }) refl)
 
   module _ (entry : entry_verdict tree_levels s.slots max_ticket room marks ≡ Ok tt) where
-    pub not_a_record : is_record plain ≡ false → (headed : Bool) × Issuing k tree_levels s plain room marks (Err (plainly NotARecord)) (zeros room) s headed
+    pub not_a_record : is_record plain ≡ false → Issues k tree_levels s plain room marks (Err (plainly NotARecord)) (zeros room) s
     not_a_record e = stopped (rw (entry, e))
 
     module _ (good : is_record plain ≡ true) where
@@ -43,14 +44,14 @@ module _ (k : Kit) (s : State) (plain : List ℕ) (room marks : ℕ) where
       entered : Entered s.slots max_ticket room marks
       entered = entered_by tree_levels entry
 
-      pub read_stops : {h : Halt} → Err h ≡ answer_of tree_levels None (reading_of tree_levels (numbers_in k) marks s) → (headed : Bool) × Issuing k tree_levels s plain room marks (Err h) (zeros room) s headed
+      pub read_stops : {h : Halt} → Err h ≡ answer_of tree_levels None (reading_of tree_levels (numbers_in k) marks s) → Issues k tree_levels s plain room marks (Err h) (zeros room) s
       read_stops e = stopped (verdict_is ∙ ap (issuable tree_levels) (read_err tree_levels (numbers_in k) s entered.wide entered.some None e))
 
       module _ {v : Survey} (e : Ok v ≡ answer_of tree_levels None (reading_of tree_levels (numbers_in k) marks s)) where
         told : Told tree_levels (numbers_in k) s None marks v (marks_of marks (reading_of tree_levels (numbers_in k) marks s))
         told = read_ok tree_levels (numbers_in k) s entered.wide entered.some None e refl
 
-        pub exhausted : 65536 ≤ v.head.issued → (headed : Bool) × Issuing k tree_levels s plain room marks (Err (plainly Exhausted)) (zeros room) s headed
+        pub exhausted : 65536 ≤ v.head.issued → Issues k tree_levels s plain room marks (Err (plainly Exhausted)) (zeros room) s
         exhausted l =
             let t = le-ltb _ _ l in stopped (verdict_is ∙ ap (issuable tree_levels) told.read ∙ rw t)
 
@@ -88,7 +89,8 @@ module _ (k : Kit) (s : State) (plain : List ℕ) (room marks : ℕ) where
                 }
 
             pub ends : {r : Outcome} {ticket : List ℕ} {t : State} → IssueEnds k s.slots v.head f plain room r ticket t →
-                (headed : Bool) × Issuing k tree_levels s plain room marks r (kept r room ticket) t headed
+                Issues k tree_levels s plain room marks r (kept r room ticket) t
+            unfolding Issues
             ends {ticket = ticket} (ended m h c q o) =
                 (ltb 0 m, cut (v.head, told.links) m h verdict_ok c q o (ap (λ x. kept x room ticket) q) refl)
             ends {r = r} {ticket = ticket} (gave q b c o) = (

@@ -4,19 +4,19 @@
 //! one. Go through `Running::issue`.
 #![tactic(auto)]
 
-ghost use Rattle.std.specs.Prelude.{◌≡◌, ℕ, ◌+◌, ◌-◌, ◌^◌, ◌<◌, ◌≤◌, Bool, true, List, [], ◌++◌, length, replicate, slice_index_or};
+ghost use Rattle.std.specs.Prelude.{◌≡◌, ℕ, ◌+◌, ◌-◌, ◌^◌, ◌<◌, ◌≤◌, true, List, [], ◌++◌, length, replicate, slice_index_or};
 ghost use Rattle.octets.specs.Buffers.{zeros, filled};
 ghost use Rattle.session.specs.Limits.{max_record};
 ghost use Rattle.ticket.specs.Limits.{max_ticket};
 ghost use Rattle.ticket.specs.Parts.{heading_of};
 ghost use Rattle.layout.specs.Records.{value_of, recounted};
 ghost use Rattle.calls.specs.Kits.{kit_of};
-ghost use Rattle.calls.specs.Calls.{Issuing, kept};
+ghost use Rattle.calls.specs.Calls.{kept};
 ghost use Rattle.scratch.specs.Clean.{Clean};
 ghost use Rattle.tree.specs.Nodes.{tree_levels};
-ghost use Rattle.issuing.specs.Ends.{Issuable, IssueEnds};
+ghost use Rattle.issuing.specs.Ends.{Issuable, IssueEnds, Issues};
 
-use calls::{admit, numbers_of};
+use calls::{admit, keep, numbers_of};
 use chain::{Found, LEAVES, read_file};
 use device::{ReadSlots, SLOT_SIZE, WriteSlots};
 use fault::{Halt, Step};
@@ -120,7 +120,7 @@ fn issue_into<D: WriteSlots, G: Generator, S: Sealer>(
     marks: &mut [u8],
     scratch: &mut Scratch,
 ) -> Result<(usize, u32), Halt>
-    ensures { (headed : Bool) × Issuing (kit_of (G.meaning generator.now) (S.meaning sealer.now)) tree_levels (D.state device.old) plain.now (length ticket.old) (length marks.old) result (kept result (length ticket.old) ticket.new) (D.state device.new) headed }
+    ensures { Issues (kit_of (G.meaning generator.now) (S.meaning sealer.now)) tree_levels (D.state device.old) plain.now (length ticket.old) (length marks.old) result (kept result (length ticket.old) ticket.new) (D.state device.new) }
 {
     admit(device, MAX_TICKET, ticket.len(), marks.len())?;
     if !is_record(plain) {
@@ -156,15 +156,13 @@ pub fn issue_on<D: WriteSlots, G: Generator, S: Sealer>(
     marks: &mut [u8],
     scratch: &mut Scratch,
 ) -> Result<(usize, u32), Halt>
-    ensures did { (headed : Bool) × Issuing (kit_of (G.meaning generator.now) (S.meaning sealer.now)) tree_levels (D.state device.old) plain.now (length ticket.old) (length marks.old) result ticket.new (D.state device.new) headed }
+    ensures did { Issues (kit_of (G.meaning generator.now) (S.meaning sealer.now)) tree_levels (D.state device.old) plain.now (length ticket.old) (length marks.old) result ticket.new (D.state device.new) }
     ensures marks { marks.new ≡ zeros (length marks.old) }
     ensures clean { Clean scratch.new }
 {
     let issued = issue_into(device, generator, sealer, plain, ticket, marks, scratch);
-    // The end is as redeeming's: a function for both would take the call as a closure, with clauses longer than these lines.
-    if issued.is_err() {
-        clear(ticket);
-    }
+    // The end is as redeeming's: three calls, which a function for both would only name once more.
+    keep(&issued, ticket);
     clear(marks);
     scratch.wipe();
     issued

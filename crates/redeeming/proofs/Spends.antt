@@ -1,5 +1,5 @@
 -- A redemption, from its steps.
-use Rattle.std.proofs.Common.{◌≡◌, ℕ, ◌-◌, ◌<◌, ◌≤◌, Bool, true, false, ltb, List, length, Some, None, Ok, Err, Result, sym, refl, ap, ◌∙◌, inl, inr, arith}
+use Rattle.std.proofs.Common.{◌≡◌, ℕ, ◌-◌, ◌<◌, ◌≤◌, true, false, ltb, List, length, Some, None, Ok, Err, Result, sym, refl, ap, ◌∙◌, inl, inr, arith}
 use Rattle.octets.specs.Buffers.{zeros}
 use Rattle.refusal.specs.declared.Refusal.TheVariants.{Spent, NoFreeSlot}
 use Rattle.device.specs.Effects.{State}
@@ -20,11 +20,11 @@ use Rattle.chain.proofs.Finds.{found_at, none_at}
 use Rattle.calls.specs.Kits.{Kit, numbers_in}
 use Rattle.ticket.specs.Parts.{number_in, heading_in, sealed_in}
 use Rattle.steps.specs.Writes.{through, failed}
-use Rattle.calls.specs.Calls.{entry_verdict, read_by, redeemable, redeem_verdict, Seals, Ready, Hit, Untouched, Redeeming, declined, spent, shut, strange, full, cut, opened}
+use Rattle.calls.specs.Calls.{entry_verdict, read_by, redeemable, redeem_verdict, Seals, Ready, Hit, Untouched, declined, spent, shut, strange, full, cut, opened}
 use Rattle.calls.proofs.Readings.{Entered, entered_by}
 use Rattle.puncture.specs.Puncturing.{Given, Puncturing}
 use Rattle.chain.proofs.Standing.{standing}
-use Rattle.redeeming.specs.Steps.{Known, Met, Derived, Unsealing}
+use Rattle.redeeming.specs.Steps.{Known, Met, Derived, Unsealing, Redeems}
 
 -- a redemption that has found its record: x, between front and back in the file f, with the marks on the chain's slots
 pub record Spotted (k : Kit) (d : ℕ) (s : State) (ticket : List ℕ) (room count many : ℕ) (found : Found) (marks : List ℕ) (f : Sound) (front : List Link) (x : Link) (back : List Link) : Type 0 where
@@ -66,12 +66,14 @@ module _ {k : Kit} {d : ℕ} {s : State} {ticket : List ℕ} {room count many : 
     unseals plain p = record { short = p.short; seals = rw w.1 p.sealing }
 
     pub stopped : (out : List ℕ) {h : Halt} → Unsealing (k.sealer.sealing key (heading_in ticket)) (sealed_in ticket) (number_in ticket) room (Err h) out →
-        (joined : Bool) × Redeeming k d s ticket room (length marks) (Err h) (zeros room) s joined
+        Redeems k d s ticket room (length marks) (Err h) (zeros room) s
+    unfolding Redeems
     stopped out (inl p) = (false, shut f front x back z.hit (λ plain q. p.0 plain (unseals plain q)) (ap Err p.1) still refl)
     stopped out (inr p) = (false, strange f front x back p.0 z.hit (seals p.0 p.1) p.2 (ap Err p.3) still refl)
 
     module _ {l : ℕ} {out : List ℕ} (o : Unsealing (k.sealer.sealing key (heading_in ticket)) (sealed_in ticket) (number_in ticket) room (Ok l) out) where
-      pub no_slot : count - 1 - many < calls → (joined : Bool) × Redeeming k d s ticket room (length marks) (Err (placed NoFreeSlot (number_in ticket))) (zeros room) s joined
+      pub no_slot : count - 1 - many < calls → Redeems k d s ticket room (length marks) (Err (placed NoFreeSlot (number_in ticket))) (zeros room) s
+      unfolding Redeems
       no_slot lt = (false, full f front x back o.0 z.hit (seals o.0 o.1) o.2 (omega (arith, z.size, z.records, calls_are)) refl still refl)
 
       module _ (le : calls ≤ count - 1 - many) where
@@ -93,14 +95,16 @@ module _ {k : Kit} {d : ℕ} {s : State} {ticket : List ℕ} {room count many : 
         ready p = record { record' = o.2; room = omega (arith, z.size, z.records, calls_are); free = p.free; many = p.many }
 
         pub failed_at : {h : Halt} {t : State} → Puncturing k d s.slots f front x back (number_in ticket) (Err h) t →
-            (joined : Bool) × Redeeming k d s ticket room (length marks) (Err h) (zeros room) t joined
+            Redeems k d s ticket room (length marks) (Err h) (zeros room) t
+        unfolding Redeems
         failed_at p = elim p.ran [
           | through e a c ↦ absurd (cc)
           | failed m h e c q ↦ (ltb (d - x.node.depth) m, cut f front x back o.0 p.taken m h z.hit (seals o.0 o.1) (ready p) c (cc) q refl refl)
         ]
 
         pub done : {t : State} → Puncturing k d s.slots f front x back (number_in ticket) (Ok tt) t →
-            (joined : Bool) × Redeeming k d s ticket room (length marks) (Ok (l, calls)) out t joined
+            Redeems k d s ticket room (length marks) (Ok (l, calls)) out t
+        unfolding Redeems
         done p = elim p.ran [
           | through e a c ↦ (true, opened f front x back o.0 p.taken z.hit (seals o.0 o.1) (ready p) a c refl (record { calls = calls; counted = w.0; is = rw o.3 }) o.4)
           | failed m h e c q ↦ absurd (cc)
@@ -108,7 +112,8 @@ module _ {k : Kit} {d : ℕ} {s : State} {ticket : List ℕ} {room count many : 
 
 -- ---- before the chain is searched
 module _ (k : Kit) (d : ℕ) (s : State) (ticket : List ℕ) (room m : ℕ) where
-  pub not_entered : {h : Halt} → entry_verdict d s.slots max_record room m ≡ Err h → (joined : Bool) × Redeeming k d s ticket room m (Err h) (zeros room) s joined
+  pub not_entered : {h : Halt} → entry_verdict d s.slots max_record room m ≡ Err h → Redeems k d s ticket room m (Err h) (zeros room) s
+  unfolding Redeems
   not_entered {h = h} e = (false, declined h (rw e) refl still refl)
 
   -- what the verdict is, once buffers and slots will do
@@ -116,19 +121,23 @@ module _ (k : Kit) (d : ℕ) (s : State) (ticket : List ℕ) (room m : ℕ) wher
     verdict_is : redeem_verdict k d s ticket room m ≡ redeemable k ticket (read_by k d s)
     verdict_is = rw entry
 
-    pub not_surveyed : {h : Halt} → redeemable k ticket (read_by k d s) ≡ Err h → (joined : Bool) × Redeeming k d s ticket room m (Err h) (zeros room) s joined
+    pub not_surveyed : {h : Halt} → redeemable k ticket (read_by k d s) ≡ Err h → Redeems k d s ticket room m (Err h) (zeros room) s
+    unfolding Redeems
     not_surveyed {h = h} v = (false, declined h (verdict_is ∙ v) refl still refl)
 
 -- ---- once the file is read
+pub is_spent : {k : Kit} {d : ℕ} {s : State} {ticket : List ℕ} (room : ℕ) {v : Survey} {marks : List ℕ} {f : Sound} →
+    entry_verdict d s.slots max_record room (length marks) ≡ Ok tt → Known k d s ticket (length marks) v marks f →
+    v.found ≡ None → Redeems k d s ticket room (length marks) (Err (placed Spent (number_in ticket))) (zeros room) s
+unfolding Redeems
+is_spent {k = k} {d = d} {s = s} {ticket = ticket} room {marks = marks} {f = f} entry c e = (
+  false,
+  spent f (verdict_is k d s ticket room (length marks) entry ∙ c.passed)
+      (λ x i o. none_at d (number_in ticket) 0 f.1 (sym c.finds ∙ e) (x.node, in_map (λ (y : Link). y.node) x f.1 i, o)) refl still refl,
+)
+
 module _ {k : Kit} {d : ℕ} {s : State} {ticket : List ℕ} {room : ℕ} {v : Survey} {marks : List ℕ} {f : Sound}
     (entry : entry_verdict d s.slots max_record room (length marks) ≡ Ok tt) (c : Known k d s ticket (length marks) v marks f) where
-  pub is_spent : v.found ≡ None → (joined : Bool) × Redeeming k d s ticket room (length marks) (Err (placed Spent (number_in ticket))) (zeros room) s joined
-  is_spent e = (
-    false,
-    spent f (verdict_is k d s ticket room (length marks) entry ∙ c.passed)
-        (λ x i o. none_at d (number_in ticket) 0 f.1 (sym c.finds ∙ e) (x.node, in_map (λ (y : Link). y.node) x f.1 i, o)) refl still refl,
-  )
-
   pub spots : {found : Found} {n : ℕ} → v.found ≡ Some found → n ≡ length s.slots →
       (front : List Link) × (x : Link) × (back : List Link) × Spotted k d s ticket room n v.length found marks f front x back
   spots {found = found} e size =

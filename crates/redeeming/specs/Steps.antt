@@ -65,8 +65,12 @@ Unsealing sealing sealed n room (Err h) out =
     (NoPlain sealing sealed × (h ≡ placed SealBroken n))
     ⊎ ((plain : List ℕ) × PlainOf sealing sealed plain × (is_record plain ≡ false) × (h ≡ placed OpenedNotARecord n))
 
+-- `Redeeming`, whether or not the join stands. The check does not open it, so it finds what it knows of redeeming by it.
+unfoldable pub Redeems : Kit → ℕ → State → List ℕ → ℕ → ℕ → Outcome → List ℕ → State → Type 0
+Redeems k d s ticket room marks r state t = (joined : Bool) × Redeeming k d s ticket room marks r state t joined
+
 -- the last steps of a redemption, on a device of so many slots: what they answer and leave, given that nothing stopped the call so far
 abbrev pub Spending : Kit → ℕ → State → List ℕ → ℕ → ℕ → Survey → List ℕ → Outcome → List ℕ → State → Type 0
 Spending k d s ticket room count v marks r state t =
     Admitted d s.slots max_record room (length marks) (Ok count) → (f : Sound) → Known k d s ticket (length marks) v marks f →
-    (joined : Bool) × Redeeming k d s ticket room (length marks) r (kept r room state) t joined
+    Redeems k d s ticket room (length marks) r (kept r room state) t

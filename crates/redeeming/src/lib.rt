@@ -6,7 +6,7 @@
 //! A state is given only once its number is spent on the device: all refusals come before the first write, and the answer after the last.
 #![tactic(auto)]
 
-ghost use Rattle.std.specs.Prelude.{◌≡◌, ◌<◌, ◌≤◌, Bool, true, List, length, Ok};
+ghost use Rattle.std.specs.Prelude.{◌≡◌, ◌<◌, ◌≤◌, true, List, length, Ok};
 ghost use Rattle.octets.specs.Buffers.{zeros};
 ghost use Rattle.session.specs.Limits.{max_record};
 ghost use Rattle.ticket.specs.Limits.{ticket_fits};
@@ -16,10 +16,10 @@ ghost use Rattle.marks.specs.Rows.{room_of};
 ghost use Rattle.chain.specs.Reading.{Link};
 ghost use Rattle.scratch.specs.Clean.{Clean};
 ghost use Rattle.calls.specs.Kits.{Kit, kit_of};
-ghost use Rattle.calls.specs.Calls.{redeemable, Redeeming, kept};
-ghost use Rattle.redeeming.specs.Steps.{asked_by, passing, Surveying, Met, Derived, Unsealing, Spending};
+ghost use Rattle.calls.specs.Calls.{redeemable, kept};
+ghost use Rattle.redeeming.specs.Steps.{asked_by, passing, Surveying, Met, Derived, Unsealing, Redeems, Spending};
 
-use calls::{admit, numbers_of};
+use calls::{admit, keep, numbers_of};
 use chain::{Found, Survey, read_marking};
 use device::{ReadSlots, SLOT_SIZE, WriteSlots};
 use fault::Halt;
@@ -175,7 +175,7 @@ fn redeem_in<D: WriteSlots, G: Generator, S: Sealer>(
     marks: &mut [u8],
     scratch: &mut Scratch,
 ) -> Result<(usize, u32), Halt>
-    ensures { (joined : Bool) × Redeeming (kit_of (G.Generator.meaning generator.now) (S.Sealer.meaning sealer.now)) tree_levels (D.ReadSlots.state device.old) ticket.now (length state.old) (length marks.old) result (kept result (length state.old) state.new) (D.ReadSlots.state device.new) joined }
+    ensures { Redeems (kit_of (G.Generator.meaning generator.now) (S.Sealer.meaning sealer.now)) tree_levels (D.ReadSlots.state device.old) ticket.now (length state.old) (length marks.old) result (kept result (length state.old) state.new) (D.ReadSlots.state device.new) }
 {
     let count = admit(device, MAX_RECORD, state.len(), marks.len())?;
     let (ticket, survey) = read_for(device, generator, sealer, ticket, marks, &mut scratch.slot)?;
@@ -196,14 +196,12 @@ pub fn redeem_on<D: WriteSlots, G: Generator, S: Sealer>(
     marks: &mut [u8],
     scratch: &mut Scratch,
 ) -> Result<(usize, u32), Halt>
-    ensures did { (joined : Bool) × Redeeming (kit_of (G.Generator.meaning generator.now) (S.Sealer.meaning sealer.now)) tree_levels (D.ReadSlots.state device.old) ticket.now (length state.old) (length marks.old) result state.new (D.ReadSlots.state device.new) joined }
+    ensures did { Redeems (kit_of (G.Generator.meaning generator.now) (S.Sealer.meaning sealer.now)) tree_levels (D.ReadSlots.state device.old) ticket.now (length state.old) (length marks.old) result state.new (D.ReadSlots.state device.new) }
     ensures marks { marks.new ≡ zeros (length marks.old) }
     ensures clean { Clean scratch.new }
 {
     let answer = redeem_in(device, generator, sealer, ticket, state, marks, scratch);
-    if answer.is_err() {
-        clear(state);
-    }
+    keep(&answer, state);
     clear(marks);
     scratch.wipe();
     answer

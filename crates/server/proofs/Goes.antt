@@ -69,37 +69,46 @@ module _ {D G S : Type 0} (means : D → State) (k : Kit) (lawful : Lawful k) wh
         law = law_holds;
       }
 
-  pub issue_answered : (me : Running D G S) (device : D) (plain : List ℕ) (room marks : ℕ) (ticket : List ℕ) (a : Result (ℕ × ℕ) Fault) →
+  pub issue_serves : (me : Running D G S) (device : D) (plain : List ℕ) (room marks : ℕ) (ticket : List ℕ) (a : Result (ℕ × ℕ) Fault) (r : Answered D G S) →
       IssueWithin k (means me.device) plain room marks a ticket (means device) →
-      IssueCall means k me plain room marks ticket (answered_by (record { device = device; generator = me.generator; sealer = me.sealer }) a)
-  issue_answered me device plain room marks ticket a w =
-      served me device a (λ root name b o t x. issued (means me.device) b plain room marks o ticket t x) w
+      r ≡ answered_by (record { device = device; generator = me.generator; sealer = me.sealer }) a →
+      IssueCall means k me plain room marks ticket r
+  unfolding IssueCall
+  issue_serves me device plain room marks ticket a r w e =
+      rw e (served me device a (λ root name b o t x. issued (means me.device) b plain room marks o ticket t x) w)
 
-  pub redeem_answered : (me : Running D G S) (device : D) (ticket : List ℕ) (room marks : ℕ) (state : List ℕ) (a : Result (ℕ × ℕ) Fault) →
+  pub redeem_serves : (me : Running D G S) (device : D) (ticket : List ℕ) (room marks : ℕ) (state : List ℕ) (a : Result (ℕ × ℕ) Fault) (r : Answered D G S) →
       RedeemWithin k (means me.device) ticket room marks a state (means device) →
-      RedeemCall means k me ticket room marks state (answered_by (record { device = device; generator = me.generator; sealer = me.sealer }) a)
-  redeem_answered me device ticket room marks state a w =
-      served me device a (λ root name b o t x. redeemed (means me.device) b ticket room marks o state t x) w
+      r ≡ answered_by (record { device = device; generator = me.generator; sealer = me.sealer }) a →
+      RedeemCall means k me ticket room marks state r
+  unfolding RedeemCall
+  redeem_serves me device ticket room marks state a r w e =
+      rw e (served me device a (λ root name b o t x. redeemed (means me.device) b ticket room marks o state t x) w)
 
-  pub make_answered : (me : Cold D G S) (device : D) (root name : List ℕ) (a : Result (Unit {0}) Fault) → length root ≡ value_length → length name ≡ name_length →
+  pub make_serves : (me : Cold D G S) (device : D) (root name : List ℕ) (a : Result (Unit {0}) Fault) (r : Result (Running D G S) (Cold D G S × Fault)) →
+      length root ≡ value_length → length name ≡ name_length →
       MakeWithin k (means me.device) root name a (means device) →
-      MakeCall means k me root name (started_by (record { device = device; generator = me.generator; sealer = me.sealer }) a)
-  make_answered me device root name a lr ln (Ok u, e, (headed, did)) =
+      r ≡ started_by (record { device = device; generator = me.generator; sealer = me.sealer }) a →
+      MakeCall means k me root name r
+  unfolding MakeCall
+  make_serves me device root name a r lr ln (Ok u, e, (headed, did)) f =
       let stands = rw (done_headed did) at did in
-      rw e (serving.made (record { device = device; generator = me.generator; sealer = me.sealer }) refl refl refl stands
+      rw (f, e) (serving.made (record { device = device; generator = me.generator; sealer = me.sealer }) refl refl refl stands
       (pasts.made (means me.device) (Ok tt) (means device) lr ln stands))
-  make_answered me device root name a lr ln (Err h, e, (headed, did)) =
-      rw e (serving.unmade (record { device = device; generator = me.generator; sealer = me.sealer }) h headed refl refl refl did
+  make_serves me device root name a r lr ln (Err h, e, (headed, did)) f =
+      rw (f, e) (serving.unmade (record { device = device; generator = me.generator; sealer = me.sealer }) h headed refl refl refl did
       (λ q. pasts.made (means me.device) (Err h) (means device) lr ln (rw q at did)))
 
-  pub reopen_answered : (me : Cold D G S) (device : D) (marks : ℕ) (a : Result (Unit {0}) Fault) →
+  pub reopen_serves : (me : Cold D G S) (device : D) (marks : ℕ) (a : Result (Unit {0}) Fault) (r : Result (Running D G S) (Cold D G S × Fault)) →
       ReopenWithin k (means me.device) marks a (means device) →
-      ReopenCall means k me marks (started_by (record { device = device; generator = me.generator; sealer = me.sealer }) a)
-  reopen_answered me device marks a (Ok u, e, did) =
-      rw e (serving.reopened (record { device = device; generator = me.generator; sealer = me.sealer }) refl refl refl did
+      r ≡ started_by (record { device = device; generator = me.generator; sealer = me.sealer }) a →
+      ReopenCall means k me marks r
+  unfolding ReopenCall
+  reopen_serves me device marks a r (Ok u, e, did) f =
+      rw (f, e) (serving.reopened (record { device = device; generator = me.generator; sealer = me.sealer }) refl refl refl did
       (λ root name b p. pasts.reopened (means me.device) b marks (Ok tt) (means device) p did))
-  reopen_answered me device marks a (Err h, e, did) =
-      rw e (serving.unopened (record { device = device; generator = me.generator; sealer = me.sealer }) h refl refl refl did
+  reopen_serves me device marks a r (Err h, e, did) f =
+      rw (f, e) (serving.unopened (record { device = device; generator = me.generator; sealer = me.sealer }) h refl refl refl did
       (λ root name b p. pasts.reopened (means me.device) b marks (Err h) (means device) p did))
 
   pub closes : (me : Running D G S) → CloseCall means k me (cold_of me)

@@ -111,33 +111,40 @@ module _ {D G S : Type 0} where
       pub law : Law
 
     -- issue, for which the head's write counts
-    abbrev pub IssueCall : Kit → Running D G S → List ℕ → ℕ → ℕ → List ℕ → Answered D G S → Type 0
+    unfoldable pub IssueCall : Kit → Running D G S → List ℕ → ℕ → ℕ → List ℕ → Answered D G S → Type 0
     IssueCall k me plain room marks ticket r =
         RunningCall k Issue (λ o t headed. Issuing k tree_levels (means me.device) plain room marks o ticket t headed) (λ o headed. issue plain o ticket headed) me r
 
     -- redeem, for which the join's write counts
-    abbrev pub RedeemCall : Kit → Running D G S → List ℕ → ℕ → ℕ → List ℕ → Answered D G S → Type 0
+    unfoldable pub RedeemCall : Kit → Running D G S → List ℕ → ℕ → ℕ → List ℕ → Answered D G S → Type 0
     RedeemCall k me ticket room marks state r =
         RunningCall k Redeem (λ o t joined. Redeeming k tree_levels (means me.device) ticket room marks o state t joined) (λ o joined. redeem ticket o joined) me r
 
-    -- make: where the head's write stands, a past begins with a fresh book
-    pub data MakeCall (k : Kit) (me : Cold D G S) (root name : List ℕ) (r : Result (Running D G S) (Cold D G S × Fault)) : Type 0 where
+    -- how make ends: where the head's write stands, a past begins with a fresh book
+    pub data MakeEnd (k : Kit) (me : Cold D G S) (root name : List ℕ) (r : Result (Running D G S) (Cold D G S × Fault)) : Type 0 where
       made : (m : Running D G S) → r ≡ Ok m → m.generator ≡ me.generator → m.sealer ≡ me.sealer →
           Making k tree_levels (means me.device) root name (Ok tt) (means m.device) true →
-          Past k tree_levels root name running (means m.device) fresh_book → MakeCall k me root name r
+          Past k tree_levels root name running (means m.device) fresh_book → MakeEnd k me root name r
       unmade : (m : Cold D G S) (h : Halt) (headed : Bool) → r ≡ Err (m, fault_of Make h) → m.generator ≡ me.generator → m.sealer ≡ me.sealer →
           Making k tree_levels (means me.device) root name (Err h) (means m.device) headed →
-          (headed ≡ true → Past k tree_levels root name cold (means m.device) fresh_book) → MakeCall k me root name r
+          (headed ≡ true → Past k tree_levels root name cold (means m.device) fresh_book) → MakeEnd k me root name r
 
-    pub data ReopenCall (k : Kit) (me : Cold D G S) (marks : ℕ) (r : Result (Running D G S) (Cold D G S × Fault)) : Type 0 where
+    unfoldable pub MakeCall : Kit → Cold D G S → List ℕ → List ℕ → Result (Running D G S) (Cold D G S × Fault) → Type 0
+    MakeCall k me root name r = MakeEnd k me root name r
+
+    -- how reopen ends: the chain is read and every free slot zero, or why not, and a past goes on
+    pub data ReopenEnd (k : Kit) (me : Cold D G S) (marks : ℕ) (r : Result (Running D G S) (Cold D G S × Fault)) : Type 0 where
       reopened : (m : Running D G S) → r ≡ Ok m → m.generator ≡ me.generator → m.sealer ≡ me.sealer →
           Reopening k tree_levels (means me.device) marks (Ok tt) (means m.device) →
           ((root name : List ℕ) (b : Book) → Past k tree_levels root name cold (means me.device) b →
-          Past k tree_levels root name running (means m.device) (fed b (reopen (Ok tt)))) → ReopenCall k me marks r
+          Past k tree_levels root name running (means m.device) (fed b (reopen (Ok tt)))) → ReopenEnd k me marks r
       unopened : (m : Cold D G S) (h : Halt) → r ≡ Err (m, fault_of Reopen h) → m.generator ≡ me.generator → m.sealer ≡ me.sealer →
           Reopening k tree_levels (means me.device) marks (Err h) (means m.device) →
           ((root name : List ℕ) (b : Book) → Past k tree_levels root name cold (means me.device) b →
-          Past k tree_levels root name cold (means m.device) (fed b (reopen (Err h)))) → ReopenCall k me marks r
+          Past k tree_levels root name cold (means m.device) (fed b (reopen (Err h)))) → ReopenEnd k me marks r
+
+    unfoldable pub ReopenCall : Kit → Cold D G S → ℕ → Result (Running D G S) (Cold D G S × Fault) → Type 0
+    ReopenCall k me marks r = ReopenEnd k me marks r
 
     -- close: the same parts, and a past goes on
     pub record CloseCall (k : Kit) (me : Running D G S) (r : Cold D G S) : Type 0 where

@@ -8,7 +8,7 @@ pub returns-in_default : goal.returns-in_default
 returns-in_default g c = λ a f v.
     let e = c.number-number.ensures in
     let h = c.at.ensures in
-    rw (h, e) (is_spent a.0 v c.in_default.is)
+    rw (h, e) (is_spent _ a.0 v c.in_default.is)
 
 pub returns-in_err-calls : goal.returns-in_err-calls
 returns-in_err-calls g c = λ a f v.
