@@ -137,7 +137,7 @@ impl<D: WriteSlots, G: Generator, S: Sealer> Cold<D, G, S> {
     }
 
     /// Makes a tree of a root value under a key name: whatever the device held is gone.
-    #[tactic(auto, using(crate::proofs::Goes::make_serves))]
+    #[tactic(auto, using(crate::proofs::Goes::make_serves, calls::proofs::Kits::lawful_by))]
     pub fn make(
         mut self,
         root: &Value,
@@ -159,7 +159,7 @@ impl<D: WriteSlots, G: Generator, S: Sealer> Cold<D, G, S> {
     }
 
     /// Reopens a tree: reads its file, and puts zeros into every free slot.
-    #[tactic(auto, using(crate::proofs::Goes::reopen_serves))]
+    #[tactic(auto, using(crate::proofs::Goes::reopen_serves, calls::proofs::Kits::lawful_by))]
     pub fn reopen(
         mut self,
         marks: &mut [u8],
@@ -189,7 +189,7 @@ impl<D: WriteSlots, G: Generator, S: Sealer> Running<D, G, S> {
     }
 
     /// Issues the next number's ticket for a state record.
-    #[tactic(auto, using(crate::proofs::Goes::issue_serves))]
+    #[tactic(auto, using(crate::proofs::Goes::issue_serves, calls::proofs::Kits::lawful_by))]
     pub fn issue(
         mut self,
         record: &[u8],
@@ -214,7 +214,7 @@ impl<D: WriteSlots, G: Generator, S: Sealer> Running<D, G, S> {
     }
 
     /// Redeems a ticket: its number is spent, and its state given, at most once.
-    #[tactic(auto, using(crate::proofs::Goes::redeem_serves))]
+    #[tactic(auto, using(crate::proofs::Goes::redeem_serves, calls::proofs::Kits::lawful_by))]
     pub fn redeem(
         mut self,
         ticket: &[u8],

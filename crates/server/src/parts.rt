@@ -5,7 +5,7 @@
 ghost use Rattle.std.specs.Prelude.{◌≡◌, length};
 ghost use Rattle.octets.specs.Buffers.{zeros};
 ghost use Rattle.scratch.specs.Clean.{Clean};
-ghost use Rattle.calls.specs.Kits.{kit_of, Lawful};
+ghost use Rattle.calls.specs.Kits.{kit_of};
 ghost use Rattle.server.specs.Serving.{faulted, MakeWithin, IssueWithin, RedeemWithin, ReopenWithin};
 
 use calls::numbers_of;
@@ -36,7 +36,6 @@ pub(super) fn make<D: WriteSlots, G: Generator, S: Sealer>(
     scratch: &mut Scratch,
 ) -> Result<(), Fault>
     ensures did { MakeWithin (kit_of (G.meaning generator.now) (S.meaning sealer.now)) (D.state device.old) root.now name.now result (D.state device.new) }
-    ensures lawful { Lawful (kit_of (G.meaning generator.now) (S.meaning sealer.now)) }
     ensures clean { Clean scratch.new }
 {
     let numbers = numbers_of(generator, sealer);
@@ -53,7 +52,6 @@ pub(super) fn reopen<D: WriteSlots, G: Generator, S: Sealer>(
     scratch: &mut Scratch,
 ) -> Result<(), Fault>
     ensures did { ReopenWithin (kit_of (G.meaning generator.now) (S.meaning sealer.now)) (D.state device.old) (length marks.old) result (D.state device.new) }
-    ensures lawful { Lawful (kit_of (G.meaning generator.now) (S.meaning sealer.now)) }
     ensures marks { marks.new ≡ zeros (length marks.old) }
     ensures clean { Clean scratch.new }
 {
@@ -74,7 +72,6 @@ pub(super) fn issue<D: WriteSlots, G: Generator, S: Sealer>(
     scratch: &mut Scratch,
 ) -> Result<(usize, u32), Fault>
     ensures did { IssueWithin (kit_of (G.meaning generator.now) (S.meaning sealer.now)) (D.state device.old) «record».now (length ticket.old) (length marks.old) result ticket.new (D.state device.new) }
-    ensures lawful { Lawful (kit_of (G.meaning generator.now) (S.meaning sealer.now)) }
     ensures marks { marks.new ≡ zeros (length marks.old) }
     ensures clean { Clean scratch.new }
 {
@@ -93,7 +90,6 @@ pub(super) fn redeem<D: WriteSlots, G: Generator, S: Sealer>(
     scratch: &mut Scratch,
 ) -> Result<(usize, u32), Fault>
     ensures did { RedeemWithin (kit_of (G.meaning generator.now) (S.meaning sealer.now)) (D.state device.old) ticket.now (length state.old) (length marks.old) result state.new (D.state device.new) }
-    ensures lawful { Lawful (kit_of (G.meaning generator.now) (S.meaning sealer.now)) }
     ensures marks { marks.new ≡ zeros (length marks.old) }
     ensures clean { Clean scratch.new }
 {
