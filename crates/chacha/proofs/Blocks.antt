@@ -1,7 +1,7 @@
 -- The laws of a block: its length, that its numbers are bytes, and its halves.
-use Rattle.std.proofs.Common.{◌≡◌, ℕ, zero, suc, ◌+◌, ◌*◌, ◌/◌, ◌%◌, ◌^◌, ◌<◌, ◌≤◌, List, [], ◌∷◌, length, get_or, map, take, drop, refl, sym, ap, ◌∙◌, arith, length-set, length-drop}
+use Rattle.std.proofs.Common.{◌≡◌, ℕ, zero, suc, ◌+◌, ◌*◌, ◌/◌, ◌%◌, ◌^◌, ◌<◌, ◌≤◌, List, [], ◌∷◌, ◌++◌, length, get_or, map, take, drop, refl, sym, ap, ◌∙◌, arith, length-set, length-drop}
 use Rattle.std.proofs.lemmas.Simd.{length-zip2, get_or-zip2}
-use Rattle.std.proofs.lemmas.List.{take_more, take_all, flat_map_more}
+use Rattle.std.proofs.lemmas.List.{take_more, take_all, flat_map_more, length-take-le, take-append-drop}
 use Rattle.std.proofs.lemmas.Slice.{take-put_mid}
 use native.Mathlib.Numerals.{unary_clauses}
 use borrow.Rule.Slice.PartMut.{put_mid}
@@ -42,6 +42,21 @@ block_long key counter nonce =
 pub block_laws : BlockLaws
 unfolding block_of
 block_laws = record { long = block_long; bytes = λ key counter nonce. joined_bytes _ }
+
+-- the sums of the parts, where two lists are cut at one place
+added_parts : (xs ys us vs : List ℕ) → length xs ≡ length ys → added (xs ++ us) (ys ++ vs) ≡ added xs ys ++ added us vs
+unfolding added
+added_parts [] [] us vs e = refl
+added_parts [] (y ∷ ys) us vs e = absurd (omega arith)
+added_parts (x ∷ xs) [] us vs e = absurd (omega arith)
+added_parts (x ∷ xs) (y ∷ ys) us vs e = ap (λ (l : List ℕ). ((x + y) % 2 ^ 32) ∷ l) (added_parts xs ys us vs (omega arith))
+
+pub added_cut : (n : ℕ) (xs ys : List ℕ) → length xs ≡ length ys → n ≤ length xs → added xs ys ≡ added (take n xs) (take n ys) ++ added (drop n xs) (drop n ys)
+added_cut n xs ys e l =
+    let same : length (take n xs) ≡ length (take n ys) = length-take-le n xs l ∙ sym (length-take-le n ys (omega arith)) in
+    ap (λ (l : List ℕ). added l ys) (sym (take-append-drop n xs))
+    ∙ ap (λ (l : List ℕ). added (take n xs ++ drop n xs) l) (sym (take-append-drop n ys))
+    ∙ added_parts (take n xs) (take n ys) (drop n xs) (drop n ys) same
 
 -- the sums of the first words are the first bytes, and those of the others the others
 halved : (n : ℕ) (s f : List ℕ) → length s ≡ length f → (take (4 * n) (flat_map serialized (added s f)) ≡ flat_map serialized (added (take n s) (take n f))) × (drop (4 * n) (flat_map serialized (added s f)) ≡ flat_map serialized (added (drop n s) (drop n f)))

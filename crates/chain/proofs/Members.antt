@@ -26,3 +26,9 @@ module _ (j : ℕ) (xs ys : List Link) where
 pub last_cases : (i : ℕ) (xs : List Link) → (last_slot i xs ≡ i) ⊎ In (last_slot i xs) (slots_of xs)
 last_cases i [] = inl refl
 last_cases i (x ∷ xs) = inr (last_cases x.slot xs)
+
+-- a slot of a chain is that of one of its records
+pub slot_of : (j : ℕ) (xs : List Link) → In j (slots_of xs) → (x : Link) × In x xs × (j ≡ x.slot)
+slot_of j [] m = absurd m
+slot_of j (x ∷ xs) (inl q) = (x, inl refl, q)
+slot_of j (x ∷ xs) (inr m) = let r = slot_of j xs m in (r.0, inr r.1, r.2)

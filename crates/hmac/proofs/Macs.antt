@@ -17,11 +17,15 @@ pub mac_laws : MacLaws
 unfolding hmac
 mac_laws = record { long = mac_long; bytes = λ k m. digest_bytes _ }
 
+-- masking twice is masking by both
+pub masked_twice : (a b : ℕ) (bs : List ℕ) → masked b (masked a bs) ≡ masked (bit_xor a b) bs
+unfolding masked
+masked_twice a b [] = refl
+masked_twice a b (x ∷ bs) = rw (xor_assoc x a b, masked_twice a b bs)
+
 -- masking for the inner hash and then by both masks is masking for the outer one
 pub masked_again : (bs : List ℕ) → masked 0x6a (masked 0x36 bs) ≡ masked 0x5c bs
-unfolding masked
-masked_again [] = refl
-masked_again (x ∷ bs) = rw (xor_assoc x 0x36 0x6a, masked_again bs)
+masked_again bs = masked_twice 0x36 0x6a bs
 
 pub ruleset masks = (append-nil, masked_again)
 

@@ -34,7 +34,7 @@ module _ (s : Slots) (i : ℕ) (is : pending_in (mark_in s) ≡ Some i) (some : 
   settles_in : i < length (shown s) → Settles s (write_of (i + 2) (copy_in s) ∷ write_of 0 blank ∷ [])
   settles_in h =
       let at = λ (x : Slot). slot_written (parts_of s some) x i (omega (arith, length_shown s)) in
-      let kept = λ (x : Slot). slot_kept s some i x (omega (arith, length_shown s)) is in
+      let kept = λ (x : Slot). slot_kept s i x (omega (arith, length_shown s)) is in
       let x = copy_in s in
       record { same = next (λ k. kept _) (zeros_settle s (set s (i + 2) x) (at x).long (kept x) ((at x).places ∙ sym was)); low = zeros_low (set s (i + 2) x) (at x).long }
 

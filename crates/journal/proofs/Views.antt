@@ -1,6 +1,6 @@
 -- What a journal shows, and how it follows from the mark, the slots in their own places and the copy.
-use Rattle.std.specs.Prelude.{◌≡◌, ℕ, ◌+◌, ◌<◌, [], length, get_or, drop, set, Some, None, Option, ◌≢◌, replicate, refl}
-use Rattle.std.proofs.Common.{◌∙◌, inl, inr, add_comm, arith, get_or-set_other, set-set, drop-set-lt}
+use Rattle.std.specs.Prelude.{◌≡◌, ℕ, ◌+◌, ◌<◌, [], length, get_or, take, drop, set, Some, None, Option, ◌≢◌, replicate, refl}
+use Rattle.std.proofs.Common.{ap, ◌∙◌, inl, inr, add_comm, arith, get_or-set_same, get_or-set_other, set-set, drop-set-lt}
 use Rattle.std.proofs.Math.Seq.{take-set-lt}
 use Rattle.std.proofs.lemmas.List.{places, drop-set-add}
 use Rattle.device.specs.Effects.{Slot, Slots, torn, blank}
@@ -14,6 +14,23 @@ pub view_other : (o : Option ℕ) (i : ℕ) (b : Slots) (c : Slot) → (o ≢ So
 unfolding view
 view_other None i b c h = refl
 view_other (Some j) i b c h = grind (arith, get_or-set_other)
+
+-- a write to the mark, however few slots there are
+pub mark_shown : (s : Slots) (x : Slot) → 0 < length s → shown (set s 0 x) ≡ view (pending_in x) (places_in s) (copy_in s)
+mark_shown s x h =
+    let m : mark_in (set s 0 x) ≡ x = get_or-set_same s 0 x [] h in
+    let b : places_in (set s 0 x) ≡ places_in s = ap (take max_slots) (drop-set-lt 2 s 0 x (omega arith)) in
+    let c : copy_in (set s 0 x) ≡ copy_in s = get_or-set_other s 0 1 x [] (λ e. omega arith) in
+    cc
+
+-- a write to the slot that the copy stands for: nothing changes that is shown
+pub slot_kept : (s : Slots) (i : ℕ) (x : Slot) → i < max_slots → pending_in (mark_in s) ≡ Some i → shown (set s (i + 2) x) ≡ shown s
+unfolding view
+slot_kept s i x h e =
+    let m : mark_in (set s (i + 2) x) ≡ mark_in s = get_or-set_other s (i + 2) 0 x [] (λ q. omega arith) in
+    let b : places_in (set s (i + 2) x) ≡ set (places_in s) i x = rw (add_comm i 2, drop-set-add, take-set-lt max_slots (drop 2 s) i x h) refl in
+    let c : copy_in (set s (i + 2) x) ≡ copy_in s = get_or-set_other s (i + 2) 1 x [] (λ q. omega arith) in
+    rw (m, b, c, e, set-set) refl
 
 -- ---- the slots below by their parts
 pub record Parts (s : Slots) (m : Slot) (b : Slots) (c : Slot) : Type 0 where
@@ -47,12 +64,6 @@ unfolding view
 shown_raised i p e = rw (p.mark, e, p.places, p.copy) refl
 
 module _ (s : Slots) (some : 2 < length s) where
-  -- a write to the slot that the copy stands for: nothing changes that is shown
-  pub slot_kept : (i : ℕ) (x : Slot) → i < max_slots → pending_in (mark_in s) ≡ Some i → shown (set s (i + 2) x) ≡ shown s
-  slot_kept i x h e =
-      let p = parts_of s some in
-      rw (shown_raised i (slot_written p x i h) e, set-set, shown_raised i p e)
-
   -- zeros to the mark, where each slot's own place holds what is shown: that stays, wherever they are cut
   module _ (v : Slots) (places : places_in s ≡ v) where
     pub zeros_done : shown (set s 0 blank) ≡ v

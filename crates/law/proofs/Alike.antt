@@ -21,9 +21,9 @@ use Rattle.law.proofs.TicketParts.{follow_long}
 use Rattle.law.proofs.ReadsBack.{reads_back}
 use Rattle.law.proofs.RedeemKeeps.{redeem_keeps}
 use Rattle.law.proofs.IssueKeeps.{issue_keeps}
-use Rattle.law.proofs.PastKeeps.{wrote_length, issue_wrote, redeem_wrote, small, holding}
+use Rattle.law.proofs.PastKeeps.{small, holding}
 use Rattle.law.proofs.Told.{Out, issue_same, redeem_same}
-use Rattle.law.proofs.Telling.{uncut_running, view_of, issue_told, redeem_told}
+use Rattle.law.proofs.Telling.{uncut_running, issue_length, redeem_length, view_of, issue_told, redeem_told}
 
 -- ---- what follows from agreement
 module _ {d : ℕ} {k : Kit} {root : List ℕ} {s : Slots} {b : Book} {k' : Kit} {root' : List ℕ} {s' : Slots} {b' : Book} (a : Agree d k root s b k' root' s' b') where
@@ -103,31 +103,33 @@ module _ {d : ℕ} (small : d ≤ 16) {name : List ℕ} {k k' : Kit} {root root'
       let o = issue_alike v v' a plain room marks uncut uncut' call call' in
       let w = issue_keeps small v call in
       let w' = issue_keeps small v' call' in
-      let n = served_alike (rw (uncut_running r uncut) at w) (rw (uncut_running r' uncut') at w') (issue_agree plain r r' ticket ticket' headed headed' a (wrote_length (issue_wrote v call)) (wrote_length (issue_wrote v' call')) o.counts) then then' in
+      let n = served_alike (rw (uncut_running r uncut) at w) (rw (uncut_running r' uncut') at w') (issue_agree plain r r' ticket ticket' headed headed' a (issue_length call) (issue_length call') o.counts) then then' in
       cc
   served_alike v v' a (redeems s ticket room marks r state t joined asks rest call uncut then) (redeems s' _ _ _ r' state' t' joined' _ rest' call' uncut' then') =
       let o = redeem_alike v v' a ticket room marks uncut uncut' call call' in
       let w = redeem_keeps small v call in
       let w' = redeem_keeps small v' call' in
-      let n = served_alike (rw (uncut_running r uncut) at w) (rw (uncut_running r' uncut') at w') (redeem_agree ticket r r' joined joined' a (wrote_length (redeem_wrote small v call)) (wrote_length (redeem_wrote small v' call')) o.counts) then then' in
+      let n = served_alike (rw (uncut_running r uncut) at w) (rw (uncut_running r' uncut') at w') (redeem_agree ticket r r' joined joined' a (redeem_length call) (redeem_length call') o.counts) then then' in
       cc
+
+-- of two servers of which the invariant holds
+pub alike_law : {k k' : Kit} {d : ℕ} {root root' name : List ℕ} {s s' : State} {b b' : Book} → Lawful k → d ≤ 16 →
+    Inv k d root name running s b → Inv k' d root' name running s' b' → Agree d k root s.slots b k' root' s'.slots b' → AlikeLaw k d s k' s'
+alike_law {k = k} {k' = k'} {name = name} {b = b} {b' = b'} law dl v v' a = record {
+  head = head_for k name b.issued (entry v.links 0);
+  links = v.links;
+  read = reads_back dl v;
+  head' = head_for k' name b'.issued (entry v'.links 0);
+  links' = v'.links;
+  read' = reads_back dl v';
+  chains = v.covers ∙ (valued_same a ∙ sym v'.covers);
+  rest = v.rest refl;
+  rest' = v'.rest refl;
+  answers = λ asks replies replies' q q'. served_alike dl law v v' a q q';
+}
 
 -- of two pasts
 pub alike : (k k' : Kit) (root root' name : List ℕ) (s s' : State) (b b' : Book) → Lawful k → Lawful k' →
     Past k tree_levels root name running s b → Past k' tree_levels root' name running s' b' →
     Agree tree_levels k root s.slots b k' root' s'.slots b' → AlikeLaw k tree_levels s k' s'
-alike k k' root root' name s s' b b' law law' p p' a =
-    let v = holding p in
-    let v' = holding p' in
-    record {
-      head = head_for k name b.issued (entry v.links 0);
-      links = v.links;
-      read = reads_back small v;
-      head' = head_for k' name b'.issued (entry v'.links 0);
-      links' = v'.links;
-      read' = reads_back small v';
-      chains = v.covers ∙ (valued_same a ∙ sym v'.covers);
-      rest = v.rest refl;
-      rest' = v'.rest refl;
-      answers = λ asks replies replies' q q'. served_alike small law v v' a q q';
-    }
+alike k k' root root' name s s' b b' law law' p p' a = alike_law law small (holding p) (holding p') a

@@ -46,6 +46,9 @@ slot_after s (w ∷ ws) i l =
 pub count_least : (d : ℕ) (s : Slots) → count_fits d s ≡ true → d + 2 ≤ length s
 count_least d s e = leb-true (d + 2) (length s) (and_parts (leb (d + 2) (length s)) (leb (length s) 1024) e).0
 
+pub count_most : (d : ℕ) (s : Slots) → count_fits d s ≡ true → length s ≤ 1024
+count_most d s e = leb-true (length s) 1024 (and_parts (leb (d + 2) (length s)) (leb (length s) 1024) e).1
+
 pub count_kept : (d : ℕ) (s t : Slots) → length t ≡ length s → count_fits d s ≡ true → count_fits d t ≡ true
 count_kept d s t e f = rw e f
 

@@ -1,10 +1,10 @@
--- The links of the chain that stands: the cover of the spent numbers, with the tree's values.
+-- The links of a chain that is the cover of spent numbers, with the tree's values; such is the chain that stands.
 use Rattle.std.proofs.Common.{◌≡◌, ℕ, List, [], ◌∷◌, map, length, sym, refl, ap, ◌∙◌, ap₂, inl, inr}
 use Rattle.std.proofs.lemmas.List.{length-map}
 use Rattle.tree.specs.declared.Node.{Node}
 use Rattle.tree.specs.Nodes.{IsNode, Covers}
 use Rattle.tree.specs.Cover.{In, cover}
-use Rattle.tree.specs.Values.{Valued, valued, value_of, key_of, key_from}
+use Rattle.tree.specs.Values.{Valued, valued, value_of, key_of, key_from, valued_cover}
 use Rattle.tree.proofs.Keys.{of_valued}
 use Rattle.tree.proofs.Places.{characterised}
 use Rattle.tree.proofs.Descent.{key_from_is}
@@ -42,30 +42,48 @@ pub record Linking (k : Kit) (d : ℕ) (root : List ℕ) (spent : List ℕ) (x :
   pub is_node : IsNode d x.node
   pub value : x.value ≡ value_of k.generator.expansion d root x.node
 
-module _ {k : Kit} {d : ℕ} {root name : List ℕ} {m : Mode} {s : State} {b : Book} (v : Inv k d root name m s b) where
-  pub nodes_are : nodes_of v.links ≡ cover d b.spent
-  nodes_are = same_nodes (value_of k.generator.expansion d root) v.links (cover d b.spent) v.covers
+-- ---- of a chain that is the cover of spent numbers, with the tree's values
+module _ (k : Kit) (d : ℕ) (root : List ℕ) (spent : List ℕ) (xs : List Link) (covers : map valued_of xs ≡ valued_cover k.generator.expansion d root spent) where
+  pub cover_nodes : nodes_of xs ≡ cover d spent
+  cover_nodes = same_nodes (value_of k.generator.expansion d root) xs (cover d spent) covers
 
-  pub link_count : length v.links ≡ length (cover d b.spent)
-  link_count = sym (length-map v.links (λ (x : Link). x.node)) ∙ ap length nodes_are
+  pub cover_count : length xs ≡ length (cover d spent)
+  cover_count = sym (length-map xs (λ (x : Link). x.node)) ∙ ap length cover_nodes
 
   -- each node of the cover is a link's
-  pub link_over : (x : Node) → In x (cover d b.spent) → (y : Link) × In y v.links × (y.node ≡ x)
-  link_over x i = link_of v.links x (rw nodes_are i)
+  pub cover_over : (x : Node) → In x (cover d spent) → (y : Link) × In y xs × (y.node ≡ x)
+  cover_over x i = link_of xs x (rw cover_nodes i)
 
-  pub link_is : (x : Link) → In x v.links → Linking k d root b.spent x
-  link_is x i =
+  pub cover_link : (x : Link) → In x xs → Linking k d root spent x
+  cover_link x i =
       let f = value_of k.generator.expansion d root in
-      let j : In (x.node, x.value) (valued f (cover d b.spent)) = rw v.covers at (in_map valued_of x v.links i) in
-      let n = of_valued f (cover d b.spent) x.node x.value j in
+      let j : In (x.node, x.value) (valued f (cover d spent)) = rw covers at (in_map valued_of x xs i) in
+      let n = of_valued f (cover d spent) x.node x.value j in
       record {
         member = n;
-        is_node = ((characterised d b.spent x.node).0 n).0;
-        value = value_at_is f (cover d b.spent) x.node x.value j;
+        is_node = ((characterised d spent x.node).0 n).0;
+        value = value_at_is f (cover d spent) x.node x.value j;
       }
 
   -- going down from it gives the tree's key
-  pub key_is : (x : Link) (n : ℕ) → In x v.links → Covers d x.node n → key_from k.generator.expansion d x.node x.value n ≡ key_of k.generator.expansion d root n
-  key_is x n i c =
-      let l = link_is x i in
+  pub cover_key : (x : Link) (n : ℕ) → In x xs → Covers d x.node n → key_from k.generator.expansion d x.node x.value n ≡ key_of k.generator.expansion d root n
+  cover_key x n i c =
+      let l = cover_link x i in
       ap (λ (u : List ℕ). key_from k.generator.expansion d x.node u n) l.value ∙ (key_from_is k.generator.expansion d root x.node n l.is_node c).same
+
+-- ---- of the chain that stands
+module _ {k : Kit} {d : ℕ} {root name : List ℕ} {m : Mode} {s : State} {b : Book} (v : Inv k d root name m s b) where
+  pub nodes_are : nodes_of v.links ≡ cover d b.spent
+  nodes_are = cover_nodes k d root b.spent v.links v.covers
+
+  pub link_count : length v.links ≡ length (cover d b.spent)
+  link_count = cover_count k d root b.spent v.links v.covers
+
+  pub link_over : (x : Node) → In x (cover d b.spent) → (y : Link) × In y v.links × (y.node ≡ x)
+  link_over = cover_over k d root b.spent v.links v.covers
+
+  pub link_is : (x : Link) → In x v.links → Linking k d root b.spent x
+  link_is = cover_link k d root b.spent v.links v.covers
+
+  pub key_is : (x : Link) (n : ℕ) → In x v.links → Covers d x.node n → key_from k.generator.expansion d x.node x.value n ≡ key_of k.generator.expansion d root n
+  key_is = cover_key k d root b.spent v.links v.covers

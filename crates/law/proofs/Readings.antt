@@ -2,7 +2,6 @@
 use Rattle.std.proofs.Common.{◌≡◌, ℕ, ◌^◌, ◌<◌, ◌≤◌, Bool, true, false, cond, List, ◌∷◌, ◌++◌, map, length, Ok, Err, Result, sym, refl, ap, ◌∙◌, inl, arith}
 use Rattle.std.proofs.lemmas.Bool.{and_parts, ltb-true, leb-true, le-leb}
 use Rattle.fault.specs.declared.Halt.{Halt}
-use Rattle.fault.specs.Faults.{plainly}
 use Rattle.device.specs.Effects.{Slots, State}
 use Rattle.device.proofs.States.{same_state}
 use Rattle.session.specs.Limits.{max_record}
@@ -12,10 +11,10 @@ use Rattle.chain.specs.Reading.{Link, valued_of, Sound}
 use Rattle.marks.specs.Rows.{room_of}
 use Rattle.tree.specs.Values.{valued_cover}
 use Rattle.calls.specs.Kits.{Kit}
-use Rattle.ticket.specs.Limits.{ticket_least}
-use Rattle.ticket.specs.Parts.{number_in}
+use Rattle.ticket.specs.Limits.{ticket_least, ticket_longest}
+use Rattle.ticket.specs.Parts.{name_in, number_in}
 use Rattle.tree.proofs.Members.{in_right}
-use Rattle.calls.specs.Calls.{entry_verdict, entered, read_by, powered, count_fits, issue_verdict, redeemable, redeem_verdict, Hit}
+use Rattle.calls.specs.Calls.{entry_verdict, entered, read_by, powered, count_fits, same_bytes, issue_verdict, redeemable, redeem_verdict, Hit}
 use Rattle.calls.specs.Books.{Book}
 use Rattle.calls.specs.Pasts.{Mode, running, cold}
 use Rattle.law.specs.Law.{RestBlank}
@@ -26,6 +25,9 @@ use Rattle.law.proofs.ReadsBack.{reads_back}
 cond_ok : {A E : Type 0} (c : Bool) (r : Result A E) (h : E) (a : A) → cond c r (Err h) ≡ Ok a → (c ≡ true) × (r ≡ Ok a)
 cond_ok true r h a e = (refl, e)
 cond_ok false r h a e = absurd (cc)
+
+pub ok_same : {A E : Type 0} {x y : A} → ◌≡◌ {A = Result A E} (Ok x) (Ok y) → x ≡ y
+ok_same e = cc
 
 entered_ok : (v : Result (Unit {0}) Halt) (r : Result Sound Halt) (f : Sound) → entered v r ≡ Ok f → r ≡ Ok f
 entered_ok (Ok u) r f e = e
@@ -44,15 +46,29 @@ pub record MayIssue (k : Kit) (d : ℕ) (s : State) (plain : List ℕ) (f : Soun
 pub issue_ok : {k : Kit} {d : ℕ} {s : State} (plain : List ℕ) (room marks : ℕ) (f : Sound) → issue_verdict k d s plain room marks ≡ Ok f → MayIssue k d s plain f
 issue_ok plain room marks f e = grind arith
 
--- a redemption that may go on: of a ticket as long as one, from the file that was read, with a number that is issued
+-- a redemption that may go on: of a ticket as long as one, from the file that was read, under its name and with a number that is issued
 pub record MayRedeem (k : Kit) (d : ℕ) (s : State) (ticket : List ℕ) (f : Sound) : Type 0 where
   pub least : ticket_least k.sealer.overhead ≤ length ticket
+  pub longest : length ticket ≤ ticket_longest k.sealer.overhead
   pub read : read_by k d s ≡ Ok f
+  pub named : same_bytes (name_in ticket) f.0.name ≡ true
   pub issued : number_in ticket < f.0.issued
 
 redeemable_ok : {k : Kit} {d : ℕ} {s : State} (ticket : List ℕ) (r : Result Sound Halt) (f : Sound) → read_by k d s ≡ r → redeemable k ticket r ≡ Ok f → MayRedeem k d s ticket f
 redeemable_ok ticket (Err h) f o e = absurd (cc)
-redeemable_ok {k = k} ticket (Ok g) f o e = grind (arith, cond_ok, leb-true, and_parts, ltb-true)
+redeemable_ok {k = k} ticket (Ok g) f o e =
+    let a = cond_ok _ _ _ f e in
+    let b = cond_ok _ _ _ f a.1 in
+    let c = cond_ok _ _ _ f b.1 in
+    let fits = and_parts _ _ a.0 in
+    let q = ok_same c.1 in
+    record {
+      least = leb-true _ _ fits.0;
+      longest = leb-true _ _ fits.1;
+      read = o ∙ c.1;
+      named = rw q at b.0;
+      issued = rw q at (ltb-true _ _ c.0);
+    }
 
 pub redeem_ok : {k : Kit} {d : ℕ} {s : State} (ticket : List ℕ) (room marks : ℕ) (f : Sound) → redeem_verdict k d s ticket room marks ≡ Ok f → MayRedeem k d s ticket f
 redeem_ok {k = k} {d = d} {s = s} ticket room marks f e =

@@ -15,6 +15,7 @@ use Rattle.calls.specs.Kits.{Kit}
 use Rattle.ticket.specs.Parts.{number_in}
 use Rattle.steps.specs.OneStep.{Write}
 use Rattle.steps.specs.Writes.{CutShort}
+use Rattle.steps.proofs.Plans.{length_stood}
 use Rattle.calls.specs.Files.{free_count}
 use Rattle.calls.proofs.Counting.{by_levels}
 use Rattle.calls.specs.Calls.{Outcome, Finished, entered, issue_verdict, issued_ticket, redeem_verdict, Hit, Seals, Issuing, Redeeming}
@@ -39,6 +40,23 @@ uncut_running (Err h) u = rw (other_refusal h.refusal (u h refl))
 -- a cut call is cut
 cut_is : {s t : Slots} {ws : List Write} {m : ℕ} {h : Halt} {r : Outcome} → CutShort s ws m h t → r ≡ Err h → Uncut r → ⊥
 cut_is {h = h} c e u = u h e (ap (λ (q : Halt). q.refusal) c.halt)
+
+-- a call leaves as many slots as there were, whatever they held
+pub issue_length : {k : Kit} {d : ℕ} {s : State} {plain : List ℕ} {room marks : ℕ} {r : Outcome} {ticket : List ℕ} {t : State} {headed : Bool} →
+    Issuing k d s plain room marks r ticket t headed → length t.slots ≡ length s.slots
+issue_length (Issuing.declined h verdict e u q) = ap (λ (x : State). length x.slots) u.state
+issue_length (Issuing.cut f m h verdict c e p z q) = rw (c.slots, length_stood)
+issue_length (Issuing.given f x verdict i c e q z p l) = rw (z, length_stood)
+
+pub redeem_length : {k : Kit} {d : ℕ} {s : State} {ticket : List ℕ} {room marks : ℕ} {r : Outcome} {state : List ℕ} {t : State} {joined : Bool} →
+    Redeeming k d s ticket room marks r state t joined → length t.slots ≡ length s.slots
+redeem_length (Redeeming.declined h verdict e u q) = ap (λ (x : State). length x.slots) u.state
+redeem_length (Redeeming.spent f verdict none e u q) = ap (λ (x : State). length x.slots) u.state
+redeem_length (Redeeming.shut f front x back hit none e u q) = ap (λ (x : State). length x.slots) u.state
+redeem_length (Redeeming.strange f front x back plain hit p odd e u q) = ap (λ (x : State). length x.slots) u.state
+redeem_length (Redeeming.full f front x back plain hit p is few e u q) = ap (λ (x : State). length x.slots) u.state
+redeem_length (Redeeming.cut f front x back plain fs m h hit p ready c e o z q) = rw (c.slots, length_stood)
+redeem_length (Redeeming.opened f front x back plain fs hit p ready t o q e z) = rw (t, length_stood)
 
 -- ---- verdicts without the file
 abbrev unfiled : Result Sound Halt → Barrier

@@ -1,10 +1,10 @@
 -- A device that writes exactly as appointed means what its trait says. `many` tells how many slots a row of some length holds.
-use Rattle.std.proofs.Common.{◌≡◌, ℕ, ◌*◌, ◌<◌, ◌≤◌, ◌⊎◌, List, [], length, get_or, take, set, Some, None, Ok, Option, refl, ap, ◌∙◌, inl, inr, arith, rules}
+use Rattle.std.proofs.Common.{◌≡◌, ℕ, ◌*◌, ◌<◌, ◌≤◌, ◌⊎◌, List, [], length, get_or, take, set, Some, None, Ok, Err, Option, refl, sym, ap, ◌∙◌, inl, inr, arith, rules}
 use lib.Seq.{paste}
-use Rattle.std.proofs.lemmas.List.{places, set-get_or, take_all, drop_all, append-nil}
-use Rattle.device.specs.Effects.{Slot, Slots, Writing, Tearing, torn, slot_size}
+use Rattle.std.proofs.lemmas.List.{places, set-get_or, length-take-le, take-take, take_all, drop_all, append-nil}
+use Rattle.device.specs.Effects.{Slot, Slots, Answer, Writing, Tearing, torn, slot_size}
 use Rattle.row.specs.Rows.{Row, slots_in, state_by, placed}
-use Rattle.row.specs.Appointed.{on_after, answer_of, Counting, partly, standing_in}
+use Rattle.row.specs.Appointed.{on_after, answer_of, Counting, partly, standing_in, Struck}
 use Rattle.row.proofs.Rows as rows
 
 module _ (many : ℕ → ℕ) (room : (l : ℕ) → many l * slot_size ≤ l) where
@@ -50,4 +50,40 @@ module _ (many : ℕ → ℕ) (room : (l : ℕ) → many l * slot_size ≤ l) wh
           | inr z ↦ inr (s ∙ rw (e, z) (ap (set (slots d.row) i) (new d.row i b fits h)))
         ],
         q,
+      )
+
+  -- the slots after a write that is told as Struck tells it
+  struck_row : (d d' : Row) (i m : ℕ) (b : Slot) → length b ≡ slot_size → m ≤ slot_size → i < length (slots d.row) → d'.row ≡ paste d.row (i * slot_size) b m → slots d'.row ≡ set (slots d.row) i (torn m (get_or (slots d.row) i []) b)
+  struck_row d d' i m b fits low h e =
+      let count : i < many (length d.row) = omega (arith, h, rows.many slot_size (many (length d.row)) d.row) in
+      let fit : many (length d.row) * slot_size ≤ length d.row = room (length d.row) in
+      let long : length (take m b) ≡ m = length-take-le m b (omega arith) in
+      let part : paste d.row (i * slot_size) (take m b) (length (take m b)) ≡ paste d.row (i * slot_size) b m = rw (long, take-take m m b (omega arith)) refl in
+      let row : d'.row ≡ paste d.row (i * slot_size) (take m b) (length (take m b)) = e ∙ sym part in
+      let same : length d'.row ≡ length d.row = ap length row ∙ search (rules, places) in
+      rw (same, row) (rows.pasted slot_size (many (length d.row)) d.row fit i m b count low fits)
+
+  -- a device that writes just as Struck says: its slots tear at most, whatever its cuts leave,
+  pub struck_tears : (stand : ℕ → ℕ) → ((m : ℕ) → stand m ≤ slot_size) → (d : Row) (i : ℕ) (b : Slot) (r : Answer) (d' : Row) → length b ≡ slot_size → Struck stand slots d i b r d' → Tearing (state_by slots d) i b r (state_by slots d')
+  struck_tears stand low d i b (Ok _) d' fits s = (s.0, s.1, struck_row d d' i slot_size b fits (omega arith) s.0 s.3 ∙ ap (set (slots d.row) i) (new d.row i b fits s.0), s.4)
+  struck_tears stand low d i b (Err e) d' fits (inl s) = inl (s.0, ap (state_by slots) s.1)
+  struck_tears stand low d i b (Err e) d' fits (inr s) =
+      inr (s.0, s.1, s.2, (stand s.3.0, low s.3.0, struck_row d d' i (stand s.3.0) b fits (low s.3.0) s.1 s.3.2), s.4)
+
+  -- and are whole, where a cut leaves none or all of the bytes
+  pub struck_wholes : (stand : ℕ → ℕ) → ((m : ℕ) → (stand m ≡ 0) ⊎ (stand m ≡ slot_size)) → (d : Row) (i : ℕ) (b : Slot) (r : Answer) (d' : Row) → length b ≡ slot_size → Struck stand slots d i b r d' → Writing (state_by slots d) i b r (state_by slots d')
+  struck_wholes stand either d i b (Ok _) d' fits s = (s.0, s.1, struck_row d d' i slot_size b fits (omega arith) s.0 s.3 ∙ ap (set (slots d.row) i) (new d.row i b fits s.0), s.4)
+  struck_wholes stand either d i b (Err e) d' fits (inl s) = inl (s.0, ap (state_by slots) s.1)
+  struck_wholes stand either d i b (Err e) d' fits (inr s) =
+      let m : ℕ = s.3.0 in
+      let left = struck_row d d' i (stand m) b fits (grind (arith, either m)) s.1 s.3.2 in
+      inr (
+        s.0,
+        s.1,
+        s.2,
+        elim (either m) [
+          | inl z ↦ inl (left ∙ rw z (set-get_or (slots d.row) i []))
+          | inr z ↦ inr (left ∙ rw z (ap (set (slots d.row) i) (new d.row i b fits s.1)))
+        ],
+        s.4,
       )

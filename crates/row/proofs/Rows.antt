@@ -1,8 +1,8 @@
 -- The laws of slots in a row of bytes.
-use Rattle.std.proofs.Common.{◌≡◌, ℕ, zero, suc, ◌+◌, ◌*◌, ◌/◌, ◌<◌, ◌≤◌, List, [], length, get_or, take, drop, set, refl, ap, add_comm, mul-le-mul_right, suc-mul, zero-mul, arith, rules}
+use Rattle.std.proofs.Common.{◌≡◌, ℕ, zero, suc, ◌+◌, ◌*◌, ◌/◌, ◌<◌, ◌≤◌, List, [], length, get_or, take, drop, set, sym, refl, ap, ◌∙◌, add_comm, mul-le-mul_right, suc-mul, zero-mul, arith, rules}
 use Rattle.std.proofs.Math.Nat.{mul_assoc, div-mul-le_self}
 use lib.Seq.{paste}
-use Rattle.std.proofs.lemmas.List.{places, same_lists, drop-drop, length-take, length-drop}
+use Rattle.std.proofs.lemmas.List.{places, same_lists, drop-drop, take_all, drop_all, append-nil, length-take, length-drop}
 use Rattle.device.specs.Effects.{torn, slot_size}
 use Rattle.row.specs.Rows.{slots_in, slots_of}
 
@@ -53,5 +53,16 @@ pasted w (suc n) row f (suc i) m b h k l =
     let tail : drop w (paste row (at + w) x (length x)) ≡ paste (drop w row) at x (length x) = same_lists _ _ (search (rules, places)) (λ j e v. grind (arith, places)) in
     let rest = pasted w n (drop w row) (simp length-drop (omega arith)) i m b (omega arith) k l in
     rw (begins, head, tail, rest) refl
+
+-- all of its bytes: that slot is new
+pub whole : (w n : ℕ) (row : List ℕ) → n * w ≤ length row → (i : ℕ) (b : List ℕ) → i < n → length b ≡ w → slots_in w n (paste row (i * w) b w) ≡ set (slots_in w n row) i b
+whole w n row f i b h l =
+    let old : List ℕ = get_or (slots_in w n row) i [] in
+    let all : take w b ≡ b = take_all w b (omega arith) in
+    let new : torn w old b ≡ b = rw (all, drop_all w old (omega (arith, sized w n row f i h))) (append-nil b) in
+    ap (λ (x : List ℕ). slots_in w n (paste row (i * w) x w)) (sym all)
+    ∙ ap (λ (m : ℕ). slots_in w n (paste row (i * w) (take w b) m)) (sym (ap length all ∙ l))
+    ∙ pasted w n row f i w b h (omega arith) l
+    ∙ ap (set (slots_in w n row) i) new
 
 pub ruleset slots = (many, place)

@@ -3,6 +3,7 @@ use Rattle.std.proofs.Common.{◌≡◌, ℕ, ◌+◌, ◌≤◌, Bool, true, fa
 use Rattle.std.proofs.lemmas.Bool.{ltb-false}
 use Rattle.octets.specs.Fields.{number_of}
 use Rattle.session.specs.declared.Suite.{Suite}
+use Rattle.session.specs.declared.Suite.TheVariants.{Aes128GcmSha256, Aes256GcmSha384, ChaCha20Poly1305Sha256}
 use Rattle.session.specs.declared.SessionState.{SessionState}
 use Rattle.session.specs.Limits.{max_name, max_lifetime, name_at, min_record}
 use Rattle.session.specs.Suites.{suite_number, suite_of}
@@ -16,6 +17,12 @@ pub record Laid (t : Suite) (b : List ℕ) : Type 0 where
   pub expires : number_of (take 4 (drop 10 b)) ≤ max_lifetime
   pub named : get_or b (name_at t) 0 ≤ max_name
   pub whole : length b ≡ name_at t + 1 + get_or b (name_at t) 0
+
+-- a suite is read back from its number
+pub suite_number_back : (t : Suite) → suite_of (suite_number t) ≡ Some t
+suite_number_back Aes128GcmSha256 = refl
+suite_number_back Aes256GcmSha384 = refl
+suite_number_back ChaCha20Poly1305Sha256 = refl
 
 number_suite : (n : ℕ) (t : Suite) → suite_of n ≡ Some t → n ≡ suite_number t
 number_suite n t e = grind arith

@@ -21,7 +21,7 @@ returns-clause-sealed g c =
     let laid : c.cover.new.out ≡ filled bytes room = c.cover.ensures ∙ covered_zeros (m.block key) m.size plain c.clear_both.new.out room c.clear_both.ensures.out in
     let front : take n c.cover.new.out ≡ bytes = ap (take n) laid ∙ take_at bytes _ n (covered_long (m.block key) m.size plain) in
     let end : c.copy_from_slice.new.self ≡ m.tag key c.args.heading.now bytes =
-    c.copy_from_slice.ensures.after ∙ tag_read m lawful key c.args.heading.now bytes c.tag.new.out x (c.tag.ensures.tagged ∙ ap (λ b. filled (m.tag key c.args.heading.now b) 32) front) c.extra-extra.ensures in (
+    c.copy_from_slice.ensures.after ∙ tag_read m key c.args.heading.now (lawful.tagged key c.args.heading.now) bytes c.tag.new.out x (c.tag.ensures.tagged ∙ ap (λ b. filled (m.tag key c.args.heading.now b) 32) front) c.extra-extra.ensures in (
       (omega arith, omega arith),
       omega arith,
       put_mid-paste n (n + x - n) c.cover.new.out c.copy_from_slice.new.self (m.tag key c.args.heading.now bytes) x end (omega arith) (sym long) ∙ rw laid (sealed_parts m key c.args.heading.now plain _ x room long refl (omega arith)),
