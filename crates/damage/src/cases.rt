@@ -8,18 +8,17 @@ use refusal::Refusal::{
 };
 use row::Cut;
 use samples::Change;
-use session::MAX_RECORD;
-use ticket::MAX_TICKET;
 
 /// A refusal and its place.
 pub(crate) type Refused = (Refusal, u32);
 
-/// Lent buffers: what, the call, the bytes lent for the answer, and those for marks.
+/// Lent buffers: what, the call, the bytes lent for the answer, and those for marks. The lengths are plain numbers, here and in
+/// `Asked::new`: this program compares the library's limits with them, so it takes none from the library.
 pub(crate) const SHORT: [(&str, Call, usize, usize); 5] = [
-    ("138 bytes for a ticket", Issue, MAX_TICKET - 1, 18),
-    ("17 bytes of marks for 18 slots", Issue, MAX_TICKET, 17),
-    ("86 bytes for a state", Redeem, MAX_RECORD - 1, 18),
-    ("17 bytes of marks for 18 slots", Redeem, MAX_RECORD, 17),
+    ("138 bytes for a ticket", Issue, 138, 18),
+    ("17 bytes of marks for 18 slots", Issue, 139, 17),
+    ("86 bytes for a state", Redeem, 86, 18),
+    ("17 bytes of marks for 18 slots", Redeem, 87, 17),
     ("17 bytes of marks for 18 slots", Reopen, 0, 17),
 ];
 

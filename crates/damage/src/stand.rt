@@ -11,8 +11,6 @@ use scratch::Scratch;
 use sealer::Sealer;
 use server::{Answered, Cold, Running};
 use serving::{Held, device_of, opened, split};
-use session::MAX_RECORD;
-use ticket::MAX_TICKET;
 use tickets::{TOP, key_from, ticket_of};
 
 /// The fewest slots that a tree fits on.
@@ -76,8 +74,8 @@ impl Asked {
         let (room, marks) = match call {
             Call::Make => (0, 0),
             Call::Reopen => (0, SLOTS),
-            Call::Issue => (MAX_TICKET, SLOTS),
-            Call::Redeem => (MAX_RECORD, SLOTS),
+            Call::Issue => (139, SLOTS),
+            Call::Redeem => (87, SLOTS),
         };
         Asked {
             call,

@@ -11,10 +11,9 @@ use cases::DAMAGED;
 use chain::{Survey, read_file};
 use device::{ReadSlots, SLOT_SIZE, WriteSlots};
 use fault::Halt;
-use generator::VALUE_SIZE;
 use generators::ChaChaGenerator;
 use lay::{FILE, SLOTS, SPENT, lay_out};
-use layout::{Numbers, copy_value};
+use layout::Numbers;
 use looking::{Look, Records, look_on};
 use memory::Memory;
 use octets::same_bytes;
@@ -25,12 +24,10 @@ use serving::{PAIR, survey};
 use tickets::{TOP, key_from};
 use tree::Node;
 
-// The value in a slot; none where it cannot be read.
+// The value in a slot, its last 32 bytes; none where it cannot be read. By its place, and not by `layout`, which laid it.
 fn value_at<D: ReadSlots>(device: &D, slot: u16) -> Option<[u8; 32]> {
     let slot = slot_at(device, slot as usize)?;
-    let mut value = [0; VALUE_SIZE];
-    copy_value(&slot, &mut value);
-    Some(value)
+    slot.last_chunk::<32>().copied()
 }
 
 fn show_head(show: &mut Show, look: &Look) {

@@ -1,7 +1,7 @@
 //! What the programs show alike: where they print, sample sessions with a root and a key name, and rows of bytes.
 #![tactic(auto)]
 
-ghost use Rattle.std.specs.Prelude.{◌≡◌, ◌↔◌, ◌≤◌, ◌<◌, ◌+◌, min, length, take, map, All, IsTrue, IsOk, IfSome, Some, Ok};
+ghost use Rattle.std.specs.Prelude.{◌≡◌, ◌↔◌, ◌⊎◌, ◌≤◌, ◌<◌, ◌+◌, min, length, take, map, All, IsTrue, IsOk, IfSome, Some, None, Ok};
 ghost use Rattle.std.specs.List.{fold, range_with_len};
 ghost use Rattle.session.specs.Records.{Fits, decode_of};
 ghost use Rattle.samples.specs.Sessions.{session_of, recorded};
@@ -187,7 +187,7 @@ pub fn session(name: &[u8], mark: u8) -> SessionState
 }
 
 /// The record of a state; none where its fields make none.
-pub fn record_of(state: &SessionState) -> Option<Bytes>
+pub fn fitting_record(state: &SessionState) -> Option<Bytes>
     ensures is { result ≡ recorded state.now }
     ensures reads { IfSome result (λ b. decode_of (take b.length b.row) ≡ Ok state.now) }
 {
@@ -196,10 +196,19 @@ pub fn record_of(state: &SessionState) -> Option<Bytes>
     Some(Bytes { row, length })
 }
 
+/// The record of a state, for callers to whom no bytes are as good as no record: no bytes where its fields make none.
+pub fn record_of(state: &SessionState) -> Bytes
+    ensures some { IfSome (recorded state.now) (λ b. result ≡ b) }
+    ensures none { recorded state.now ≡ None → result.length ≡ 0 }
+    ensures reads { (result.length ≡ 0) ⊎ (decode_of (take result.length result.row) ≡ Ok state.now) }
+{
+    fitting_record(state).unwrap_or(Bytes::none())
+}
+
 /// The record of a session by its name and its mark.
 pub fn session_record(name: &[u8], mark: u8) -> Bytes
     ensures is { recorded (session_of name.now mark) ≡ Some result }
     ensures reads { decode_of (take result.length result.row) ≡ Ok (session_of name.now mark) }
 {
-    record_of(&session(name, mark)).unwrap()
+    fitting_record(&session(name, mark)).unwrap()
 }

@@ -16,7 +16,7 @@ use image::ByteImage;
 use journal::Journal;
 use octets::same_bytes;
 use row::Cut;
-use samples::{Bytes, KEY_NAME, ROOM, ROOT, add, record_of};
+use samples::{Bytes, KEY_NAME, ROOM, ROOT, add, fitting_record};
 use server::{Cold, Running};
 use serving::{Held, device_of, opened, split};
 use session::MAX_NAME;
@@ -74,7 +74,7 @@ fn look<'a>(desk: &mut Desk, server: Up<'a>) -> Here<'a> {
 
 // Issues a manager's ticket.
 fn issue<'a>(desk: &mut Desk, server: Up<'a>, k: usize) -> Here<'a> {
-    let Some(record) = record_of(&state_of(k)) else {
+    let Some(record) = fitting_record(&state_of(k)) else {
         desk.show.expect(false, "a state makes no record");
         return Ok(server);
     };
@@ -108,7 +108,7 @@ fn welcome(desk: &mut Desk, k: usize, state: &[u8], calls: u32) {
     add(&mut desk.given[k % MANAGERS.len()].states, 1);
     let length = usize::from(opened.name_length).min(MAX_NAME);
     let name = str::from_utf8(&opened.name[..length]).unwrap_or("");
-    let own = record_of(&state_of(k)).is_some_and(|record| same_bytes(record.part(), state));
+    let own = fitting_record(&state_of(k)).is_some_and(|record| same_bytes(record.part(), state));
     println!(desk.show;
         "  ticket {k} is redeemed: the state of {name}, {} bytes, lifetime {} s, generator calls {calls}; the state issued: {own}",
         state.len(),

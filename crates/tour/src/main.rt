@@ -9,7 +9,7 @@ use chachaseal::ChaChaSealer;
 use generator::Generator;
 use generators::{ChaChaGenerator, ShaGenerator};
 use hmacseal::HmacSealer;
-use samples::{Bytes, ROOM, Show, record_of};
+use samples::{Bytes, ROOM, Show, fitting_record};
 use sealer::Sealer;
 use std::fmt;
 use ticket::HEADING;
@@ -55,7 +55,7 @@ fn walk<G: Generator, S: Sealer>(
     sealer: &S,
     case: &Case,
 ) -> anyhow::Result<()> {
-    let record = record_of(&case.state()).context("the state makes no record")?;
+    let record = fitting_record(&case.state()).context("the state makes no record")?;
     println!(show; "root: {}", Hex(&case.root()));
     let name = case.name;
     println!(show; "key name: {}", Hex(name));

@@ -6,4 +6,4 @@ use Rattle.samples.proofs.session_record.Goals as goal
 pub unwrap-requires : goal.unwrap-requires
 unwrap-requires c =
     let fit : fields_fit c.session.result ≡ true = (fields_fit_is c.session.result (omega arith)).1 c.session.ensures.fits in
-    rw (c.record_of.ensures.is, fit)
+    rw (c.fitting_record.ensures.is, fit)

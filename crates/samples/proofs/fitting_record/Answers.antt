@@ -1,6 +1,6 @@
 use Rattle.std.proofs.Common.{arith}
 use Rattle.session.specs.Records.{written_of, buffer_of}
-use Rattle.samples.proofs.record_of.Goals as goal
+use Rattle.samples.proofs.fitting_record.Goals as goal
 
 pub returns-in_err-length-clause-is : goal.returns-in_err-length-clause-is
 unfolding written_of
