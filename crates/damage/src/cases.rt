@@ -1,5 +1,7 @@
 //! The cases, one a row. What has no name is checked alone, and neither shown nor counted.
 // Their name is "", since an Option would set Some around every other name.
+ghost use Rattle.std.specs.Prelude.{◌≡◌};
+
 use crate::edits::Edit::{self, Beyond, Length, Put, Shorter, Turn, TurnLast};
 use fault::Call::{self, Issue, Make, Redeem, Reopen};
 use refusal::Refusal::{
@@ -8,12 +10,19 @@ use refusal::Refusal::{
 };
 use row::Cut;
 use samples::Change;
+use session::MAX_RECORD;
+use ticket::MAX_TICKET;
 
 /// A refusal and its place.
 pub(crate) type Refused = (Refusal, u32);
 
-/// Lent buffers: what, the call, the bytes lent for the answer, and those for marks. The lengths are plain numbers, here and in
-/// `Asked::new`: this program compares the library's limits with them, so it takes none from the library.
+/// The library's limits in plain numbers, which the tables here and `Asked::new` hold against it: they take none from it.
+pub(crate) fn limits_stand()
+    ensures ticket { MAX_TICKET ≡ 139 }
+    ensures record { MAX_RECORD ≡ 87 }
+{}
+
+/// Lent buffers: what, the call, the bytes lent for the answer, and those for marks.
 pub(crate) const SHORT: [(&str, Call, usize, usize); 5] = [
     ("138 bytes for a ticket", Issue, 138, 18),
     ("17 bytes of marks for 18 slots", Issue, 139, 17),

@@ -2,6 +2,8 @@
 //! in each way that is refused.
 #![tactic(auto)]
 
+ghost use Rattle.std.specs.Prelude.{◌≡◌, take, drop};
+
 mod cases;
 mod lay;
 
@@ -24,10 +26,19 @@ use serving::{PAIR, survey};
 use tickets::{TOP, key_from};
 use tree::Node;
 
-// The value in a slot, its last 32 bytes; none where it cannot be read. By its place, and not by `layout`, which laid it.
+// A record's value: the last 32 bytes of its slot. By their place, and not by `layout`, which laid them.
+fn value_in(slot: &[u8; SLOT_SIZE]) -> [u8; 32]
+    ensures { result ≡ take 32 (drop 32 slot.now) }
+{
+    let mut value = [0; 32];
+    value.copy_from_slice(&slot[32..]);
+    value
+}
+
+// The value in a slot; none where it cannot be read.
 fn value_at<D: ReadSlots>(device: &D, slot: u16) -> Option<[u8; 32]> {
     let slot = slot_at(device, slot as usize)?;
-    slot.last_chunk::<32>().copied()
+    Some(value_in(&slot))
 }
 
 fn show_head(show: &mut Show, look: &Look) {
